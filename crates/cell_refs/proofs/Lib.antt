@@ -1,0 +1,2 @@
+-- Laws of the order of cells.
+pub mod CellOrder

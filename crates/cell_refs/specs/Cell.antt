@@ -1,0 +1,24 @@
+-- Cells and their order.
+use Rattle.std.specs.Prelude.{◌≡◌, ℕ, Bool, ◌≤◌, refl}
+use Rattle.std.specs.declared.cmp.Ordering.{Ordering}
+use Rattle.std.specs.Ordering.{nat_cmp, ordering_then, is_eq}
+use Rattle.std.specs.Coded.{Coded, code_by, coded×, coded_ℕ}
+use Rattle.cell_refs.specs.declared.cells.Cell.{Cell}
+
+-- a cell of the grid
+pub record IsCell (cell : Cell) : Type 0 where
+  pub sheet : (1 ≤ cell.sheet) × (cell.sheet ≤ 64)
+  pub row : (1 ≤ cell.row) × (cell.row ≤ 1048576)
+  pub col : (1 ≤ cell.col) × (cell.col ≤ 16384)
+
+-- by sheet, then by row, then by column
+abbrev pub cell_cmp : Cell → Cell → Ordering
+cell_cmp a b = ordering_then (nat_cmp a.sheet b.sheet) (ordering_then (nat_cmp a.row b.row) (nat_cmp a.col b.col))
+
+-- whether two cells are one
+abbrev pub same_cell : Cell → Cell → Bool
+same_cell a b = is_eq (cell_cmp a b)
+
+-- a cell as three numbers
+abbrev pub coded_cell : Coded Cell
+coded_cell = code_by (ℕ × (ℕ × ℕ)) (coded× coded_ℕ (coded× coded_ℕ coded_ℕ)) (λ c. (c.sheet, (c.row, c.col))) (λ p. record { sheet = p.0; row = p.1.0; col = p.1.1 }) (λ _. refl)

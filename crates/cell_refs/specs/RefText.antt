@@ -1,0 +1,8 @@
+-- Written references.
+use Rattle.std.specs.Prelude.{ℕ, unwrap_or}
+use Rattle.cell_refs.specs.declared.cells.Cell.{Cell}
+use Rattle.cell_refs.specs.declared.references.RefText.{RefText}
+
+-- the cell that a reference means in a formula on the sheet home
+abbrev pub cell_at : RefText → ℕ → Cell
+cell_at r home = record { sheet = unwrap_or r.sheet home; row = r.row; col = r.col }

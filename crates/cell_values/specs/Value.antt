@@ -1,0 +1,38 @@
+-- Values, and what the operators make of them.
+use Rattle.std.specs.Prelude.{ℕ, ℤ, pos, negsuc, neg_ℤ, ◌+ℤ◌, int_le, Bool, ◌&&◌, if◌then◌else◌, Result, Ok, Err, List, [], ◌∷◌, codes}
+use Rattle.std.specs.Fmt.{signed_decimal}
+use Rattle.cell_values.specs.declared.errors.ErrorKind.{ErrorKind}
+use Rattle.cell_values.specs.declared.errors.ErrorKind.TheVariants as errors
+use Rattle.cell_values.specs.declared.values.Value.{Value}
+use Rattle.cell_values.specs.declared.values.Value.TheVariants as values
+
+-- the number that a value counts as, or the error
+abbrev pub number_of : Value → Result ℤ ErrorKind
+number_of (values.Num n) = Ok n
+number_of (values.Text t) = Err errors.Value
+number_of (values.Bool b) = Ok (if b then pos 1 else pos 0)
+number_of (values.Error e) = Err e
+number_of values.Blank = Ok (pos 0)
+
+-- the greatest magnitude of a number
+abbrev pub MAGNITUDE : ℤ
+MAGNITUDE = pos 999999999999999
+
+-- a number where it is within the magnitude, else `#NUM!`
+abbrev pub within_magnitude : ℤ → Value
+within_magnitude n = if int_le (neg_ℤ MAGNITUDE) n && int_le n MAGNITUDE then values.Num n else values.Error errors.Num
+
+-- what an operation on numbers makes of two values: the first error is the answer
+abbrev pub on_numbers : (ℤ → ℤ → Value) → Result ℤ ErrorKind → Result ℤ ErrorKind → Value
+on_numbers f (Err e) n = values.Error e
+on_numbers f (Ok m) (Err e) = values.Error e
+on_numbers f (Ok m) (Ok n) = f m n
+
+-- the sum of two values
+abbrev pub add_of : Value → Value → Value
+add_of a b = on_numbers (λ m n. within_magnitude (m +ℤ n)) (number_of a) (number_of b)
+
+-- what a cell shows of a formula's value: Blank becomes 0
+abbrev pub final_of : Value → Value
+final_of values.Blank = values.Num (pos 0)
+final_of v = v
