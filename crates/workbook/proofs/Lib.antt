@@ -1,0 +1,2 @@
+-- Laws of books.
+pub mod Counts
