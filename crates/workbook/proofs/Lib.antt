@@ -1,2 +1,8 @@
--- Laws of books.
+-- Laws of books, and of what their cells mean.
+pub mod Cells
 pub mod Counts
+pub mod Entries
+pub mod Settling
+pub mod Walking
+pub mod Reaching
+pub mod Meanings

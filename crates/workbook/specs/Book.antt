@@ -2,12 +2,17 @@
 use Rattle.std.specs.Prelude.{ℕ, Bool, true, false, if◌then◌else◌, Option, None, Some, List, [], ◌∷◌}
 use Rattle.std.specs.List.{count_by, filter}
 use Rattle.std.specs.Ordering.{is_lt}
-use Rattle.std.specs.Map.{lookup}
+use Rattle.std.specs.Map.{lookup, keys_of}
+use Rattle.std.specs.List.Sorted.{IsStrictlySortedBy}
 use Rattle.cell_refs.specs.declared.cells.Cell.{Cell}
 use Rattle.cell_refs.specs.Cell.{cell_cmp, same_cell}
 use Rattle.formula_parse.specs.Tree.{precedents}
 use Rattle.workbook.specs.declared.contents.Content.{Content}
 use Rattle.workbook.specs.declared.contents.Content.TheVariants as contents
+
+-- the cells of a book stand in cell order, each once
+abbrev pub IsInOrder : List (Cell × Content) → Type 0
+IsInOrder book = IsStrictlySortedBy cell_cmp (keys_of book)
 
 -- the content of a cell
 abbrev pub content_at : List (Cell × Content) → Cell → Option Content

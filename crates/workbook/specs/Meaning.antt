@@ -1,5 +1,5 @@
 -- What each cell of a book means, by recursion along the references.
-use Rattle.std.specs.Prelude.{ℕ, zero, suc, Bool, if◌then◌else◌, Option, None, Some, List, map}
+use Rattle.std.specs.Prelude.{ℕ, zero, suc, if◌then◌else◌, Option, None, Some, List, map}
 use Rattle.cell_refs.specs.declared.cells.Cell.{Cell}
 use Rattle.cell_values.specs.declared.values.Value.{Value}
 use Rattle.cell_values.specs.declared.values.Value.TheVariants as values
@@ -20,6 +20,10 @@ abbrev pub value_within : List (Cell × Content) → ℕ → Cell → Value
 value_within book zero cell = content_value (content_at book cell) cell.sheet (λ _. values.Blank)
 value_within book (suc steps) cell = content_value (content_at book cell) cell.sheet (value_within book steps)
 
+-- the value of a cell that is not circular
+abbrev pub value_of : List (Cell × Content) → Cell → Value
+value_of book cell = value_within book (formula_count book) cell
+
 -- what a cell means: a value, or that it is circular
 pub data Meaning : Type 0 where
   Val : Value → Meaning
@@ -27,7 +31,7 @@ pub data Meaning : Type 0 where
 
 -- the meaning of a cell
 abbrev pub meaning : List (Cell × Content) → Cell → Meaning
-meaning book cell = if is_circular book cell then Circ else Val (value_within book (formula_count book) cell)
+meaning book cell = if is_circular book cell then Circ else Val (value_of book cell)
 
 -- what a cell shows of its meaning: its value, or None where it is circular
 abbrev pub shown : Meaning → Option Value

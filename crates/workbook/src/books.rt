@@ -2,14 +2,12 @@ ghost use Rattle.std.specs.Prelude.{◌≡◌, unwrap_or};
 ghost use Rattle.std.specs.Option.{option_map};
 ghost use Rattle.workbook.specs.Book.{formula_weight};
 
+use super::contents::Content;
+use cell_refs::Cell;
 use std::alloc::Global;
 use std::collections::BTreeMap;
 use std::marker::Model;
 use std::ops::Bound;
-
-use cell_refs::Cell;
-
-use super::contents::Content;
 
 /// Why a content was not taken; it is given back.
 #[derive(Drop)]
@@ -33,18 +31,18 @@ impl Model for Book {
 
     ghost Value = { List (Cell × Content) };
 
-    ghost use Rattle.workbook.specs.Book.{formula_count};
+    ghost use Rattle.workbook.specs.Book.{formula_count, IsInOrder};
 
     ghost view = { λ b. b.contents.entries };
 
-    ghost invariant = { λ b. b.formulas ≡ formula_count b.contents.entries };
+    ghost invariant = { λ b. (b.formulas ≡ formula_count b.contents.entries) × IsInOrder b.contents.entries };
 }
 
 impl Book {
     ghost use Rattle.std.specs.Prelude.{[], length, OnOk, IfErr, OnErr, option_copied, IfSome, IsNone, ◌↔◌};
     ghost use Rattle.std.specs.BTreeMap.{insert_entry};
     ghost use Rattle.cell_refs.specs.Cell.{cell_cmp};
-    ghost use Rattle.workbook.specs.Book.{content_at, formula_count, next_cell};
+    ghost use Rattle.workbook.specs.Book.{content_at, formula_count, next_cell, IsInOrder};
     ghost use Rattle.workbook.specs.declared.books.SetFault.TheVariants as faults;
 
     /// An empty book.
@@ -59,21 +57,24 @@ impl Book {
 
     /// The content of a cell.
     pub fn get(&self, cell: Cell) -> Option<&Content>
-        ensures { option_copied result ≡ content_at self.now cell }
+        ensures found { option_copied result ≡ content_at self.now cell }
+        ensures ordered { IsInOrder self.now }
     {
         self.contents.get(&cell)
     }
 
     /// How many cells have content.
     pub fn cells(&self) -> usize
-        ensures { result ≡ length self.now }
+        ensures count { result ≡ length self.now }
+        ensures ordered { IsInOrder self.now }
     {
         self.contents.len()
     }
 
     /// How many cells have a formula.
     pub fn formulas(&self) -> usize
-        ensures { result ≡ formula_count self.now }
+        ensures count { result ≡ formula_count self.now }
+        ensures ordered { IsInOrder self.now }
     {
         self.formulas
     }
@@ -102,7 +103,8 @@ impl Book {
 
     /// The least cell with content among those greater than `after`, or among all.
     pub fn next_cell(&self, after: Option<Cell>) -> Option<Cell>
-        ensures { result ≡ next_cell self.now after }
+        ensures next { result ≡ next_cell self.now after }
+        ensures ordered { IsInOrder self.now }
     {
         match after {
             None => match self.contents.first_key_value() {
@@ -114,9 +116,14 @@ impl Book {
     }
 
     fn next_after(&self, cell: Cell) -> Option<Cell>
-        ensures { result ≡ next_cell self.now (Some cell) }
+        ensures next { result ≡ next_cell self.now (Some cell) }
+        ensures ordered { IsInOrder self.now }
     {
-        match self.contents.range((Bound::Excluded(&cell), Bound::Unbounded)).next() {
+        match self
+            .contents
+            .range((Bound::Excluded(&cell), Bound::Unbounded))
+            .next()
+        {
             None => None,
             Some((next, _)) => Some(*next),
         }

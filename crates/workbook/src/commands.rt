@@ -1,6 +1,5 @@
-use cell_refs::Cell;
-
 use super::contents::Content;
+use cell_refs::Cell;
 
 /// Which cells a recalculation takes.
 #[derive(Clone, Copy, Debug, PartialEq, Eq)]

@@ -4,16 +4,11 @@
 mod books;
 mod commands;
 mod contents;
+mod laws;
 mod replies;
 
 pub use books::{Book, SetFault};
 pub use commands::{BeginKind, Command, Form};
 pub use contents::Content;
+pub use laws::{circular_cells, kept_meanings, meanings_of_formulas, reached_cells};
 pub use replies::{Reply, SheetCells};
-
-ghost use Rattle.std.specs.Prelude.{◌≡◌, List, ℕ};
-ghost use Rattle.workbook.specs.State.{State, reply_to, state_after};
-pub fn laws()
-    ensures { (s : State) → state_after s ≡ state_after s }
-{
-}

@@ -1,11 +1,9 @@
 ghost use Rattle.std.specs.Prelude.{◌≡◌};
 
-use std::marker::Model;
-
+use super::commands::Form;
 use cell_refs::Cell;
 use cell_values::Value;
-
-use super::commands::Form;
+use std::marker::Model;
 
 /// The cells of a sheet with what they show, in cell order; None stands for a circular cell.
 #[derive(Drop)]

@@ -1,0 +1,41 @@
+//! Laws of the definitions. The functions do nothing; each carries a theorem as its contract.
+
+ghost use Rattle.std.specs.Prelude.{◌≡◌, ℕ, Bool, true, false, List, Some};
+ghost use Rattle.std.specs.List.{list_any};
+ghost use Rattle.cell_refs.specs.declared.cells.Cell.{Cell};
+ghost use Rattle.workbook.specs.declared.contents.Content.{Content};
+ghost use Rattle.workbook.specs.Book.{IsInOrder, is_formula, content_at, named_cells, formula_count};
+ghost use Rattle.workbook.specs.Circular.{is_circular, walks_on};
+ghost use Rattle.workbook.specs.Stale.{is_among, reaches, is_stale};
+ghost use Rattle.workbook.specs.Meaning.{meaning, Val, Circ, value_of, content_value};
+
+/// From a circular cell there are walks of every length, and a cell is circular exactly where it names a
+/// circular cell.
+pub fn circular_cells()
+    ensures walks { (book : List (Cell × Content)) → IsInOrder book
+        → (cell : Cell) → is_circular book cell ≡ true → (steps : ℕ) → walks_on book steps cell ≡ true }
+    ensures names { (book : List (Cell × Content)) → IsInOrder book
+        → (cell : Cell) → is_circular book cell ≡ list_any (is_circular book) (named_cells book cell) }
+{}
+
+/// What is reached in any number of steps is reached in as many as there are formula cells.
+pub fn reached_cells()
+    ensures { (book : List (Cell × Content)) → IsInOrder book → (changed : List Cell) (steps : ℕ) (cell : Cell)
+        → reaches book changed steps cell ≡ true → reaches book changed (formula_count book) cell ≡ true }
+{}
+
+/// A cell that isn't circular has the value of its content over the values of the cells that it names.
+pub fn meanings_of_formulas()
+    ensures circular { (book : List (Cell × Content)) (cell : Cell)
+        → is_circular book cell ≡ true → meaning book cell ≡ Circ }
+    ensures value { (book : List (Cell × Content)) (cell : Cell) → is_circular book cell ≡ false
+        → meaning book cell ≡ Val (content_value (content_at book cell) cell.sheet (value_of book)) }
+{}
+
+/// A formula cell that isn't stale keeps its meaning, and so does a constant that wasn't changed.
+pub fn kept_meanings()
+    ensures { (before now : List (Cell × Content)) (changed : List Cell) → IsInOrder before → IsInOrder now
+        → ((cell : Cell) → is_among changed cell ≡ false → content_at before cell ≡ content_at now cell)
+        → (cell : Cell) → is_among changed cell ≡ false → is_stale now changed cell ≡ false
+        → meaning before cell ≡ meaning now cell }
+{}
