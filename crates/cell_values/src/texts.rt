@@ -1,4 +1,6 @@
-ghost use Rattle.std.specs.Prelude.{◌≡◌, IfOk};
+ghost use Rattle.std.specs.Prelude.{◌≡◌, IfOk, IfErr, IsTrue, length, position};
+ghost use Rattle.std.specs.Char.{is_ascii_control};
+ghost use Rattle.std.specs.Str.{chars};
 
 use super::errors::Memory;
 use std::alloc::Global;
@@ -12,15 +14,60 @@ pub struct Text {
 }
 
 impl Model for Text {
-    ghost use Rattle.std.specs.Prelude.{List, ℕ};
+    ghost use Rattle.std.specs.Prelude.{List, ℕ, IsTrue};
     ghost use Rattle.std.specs.Arc.{arc_str_bytes};
+    ghost use Rattle.cell_values.specs.Text.{is_text};
 
     ghost Value = { List ℕ };
 
     ghost view = { λ t. arc_str_bytes t.shared };
+
+    ghost invariant = { λ t. IsTrue (is_text (arc_str_bytes t.shared)) };
 }
 
+/// Why some characters are no text.
+#[derive(Clone, Copy, Debug, PartialEq, Eq)]
+pub enum TextFault {
+    Memory,
+    /// There are more than 32,767 characters.
+    TooLong,
+    /// The byte place of the first control character.
+    Control(usize),
+}
+
+/// The greatest number of characters of a text.
+const MOST_CHARACTERS: usize = 32_767;
+
 impl Text {
+    ghost use Rattle.cell_values.specs.Text.{is_text};
+    ghost use Rattle.cell_values.specs.TextFault.{IsFaultOf};
+
+    /// The text of these characters.
+    pub fn new(alloc: Global, s: &str) -> Result<Text, TextFault>
+        ensures text { IfOk result (λ text. text ≡ s.now) }
+        ensures ok { IfOk result (λ _. IsTrue (is_text s.now)) }
+        ensures fault { IfErr result (λ fault. IsFaultOf fault s.now) }
+    {
+        if count_characters(s) > MOST_CHARACTERS {
+            return Err(TextFault::TooLong);
+        }
+        if let Some(place) = first_control(s.as_bytes()) {
+            return Err(TextFault::Control(place));
+        }
+        match ArcStr::from_str(alloc, s) {
+            Ok(shared) => Ok(Text { shared }),
+            Err(_) => Err(TextFault::Memory),
+        }
+    }
+
+    /// The characters of the text.
+    pub fn as_str(&self) -> &str
+        ensures text { result.now ≡ self.now }
+        ensures valid { IsTrue (is_text self.now) }
+    {
+        self.shared.as_str()
+    }
+
     /// A second hold on the same text.
     pub fn copy(&self) -> Result<Text, Memory>
         ensures { IfOk result (λ copy. copy ≡ self.now) }
@@ -30,4 +77,18 @@ impl Text {
             Err(_) => Err(Memory),
         }
     }
+}
+
+/// The number of characters.
+fn count_characters(s: &str) -> usize
+    ensures { result ≡ length (chars s.now) }
+{
+    s.chars().count()
+}
+
+/// The place of the first control character.
+fn first_control(bytes: &[u8]) -> Option<usize>
+    ensures { result ≡ position is_ascii_control bytes.now }
+{
+    bytes.iter().position(|b| b.is_ascii_control())
 }

@@ -1,0 +1,3 @@
+-- Lemmas on digits, texts, words and operators.
+pub mod DigitFacts
+pub mod TextFacts

@@ -1,0 +1,13 @@
+-- Texts: which lists of bytes are texts.
+use Rattle.std.specs.Prelude.{ℕ, Bool, ◌&&◌, nat_le, is_none, List, length}
+use Rattle.std.specs.List.{position}
+use Rattle.std.specs.Char.{is_ascii_control}
+use Rattle.std.specs.Str.{is_utf8, chars}
+
+-- the greatest number of characters of a text
+abbrev pub MOST_CHARACTERS : ℕ
+MOST_CHARACTERS = 32767
+
+-- the bytes of a text: UTF-8, at most 32,767 characters, none of them below U+0020 or U+007F
+abbrev pub is_text : List ℕ → Bool
+is_text t = is_utf8 t && (nat_le (length (chars t)) MOST_CHARACTERS && is_none (position is_ascii_control t))

@@ -1,0 +1,95 @@
+ghost use Rattle.std.specs.Prelude.{◌≡◌, ◌≤◌, pos, IfSome};
+ghost use Rattle.std.specs.Option.{option_map};
+ghost use Rattle.cell_values.specs.Digits.{whole_number, below_zero, signed_number, after_spaces, trimmed};
+ghost use Rattle.cell_values.specs.Word.{number_word};
+
+/// The greatest magnitude of a number.
+pub const MAGNITUDE: u64 = 999_999_999_999_999;
+
+/// The number that one or more decimal digits stand for, where it is within the magnitude.
+fn whole(digits: &[u8]) -> Option<u64>
+    ensures number { result ≡ whole_number digits.now }
+    ensures bound { IfSome result (λ n. n ≤ MAGNITUDE) }
+{
+    if digits.is_empty() {
+        return None;
+    }
+    let mut number = 0;
+    for digit in digits {
+        if !digit.is_ascii_digit() {
+            return None;
+        }
+        number = number * 10 + u64::from(*digit - b'0');
+        if number > MAGNITUDE {
+            return None;
+        }
+    }
+    Some(number)
+}
+
+/// The number of these digits.
+fn positive(digits: &[u8]) -> Option<i64>
+    ensures { result ≡ option_map pos (whole_number digits.now) }
+{
+    match whole(digits) {
+        Some(n) => Some(n as i64),
+        None => None,
+    }
+}
+
+/// The number below zero whose magnitude has these digits.
+fn negative(digits: &[u8]) -> Option<i64>
+    ensures { result ≡ option_map below_zero (whole_number digits.now) }
+{
+    match whole(digits) {
+        Some(n) => Some(-(n as i64)),
+        None => None,
+    }
+}
+
+/// The number of digits, or of a sign and digits.
+pub fn signed(bytes: &[u8]) -> Option<i64>
+    ensures { result ≡ signed_number bytes.now }
+{
+    match bytes {
+        [] => None,
+        [b'-', digits @ ..] => negative(digits),
+        [b'+', digits @ ..] => positive(digits),
+        digits => positive(digits),
+    }
+}
+
+/// What follows the spaces at the start.
+pub fn skip_spaces(bytes: &[u8]) -> &[u8]
+    ensures { result.now ≡ after_spaces bytes.now }
+{
+    let mut rest = bytes;
+    while let [b' ', tail @ ..] = rest {
+        rest = tail;
+    }
+    rest
+}
+
+/// Without the spaces at both ends.
+pub fn trim_spaces(bytes: &[u8]) -> &[u8]
+    ensures { result.now ≡ trimmed bytes.now }
+{
+    let mut rest = skip_spaces(bytes);
+    while let [front @ .., b' '] = rest {
+        rest = front;
+    }
+    rest
+}
+
+/// The number that a number word says. None where the bytes are no number word.
+pub fn read_number_word(text: &[u8]) -> Option<i64>
+    ensures { result ≡ number_word text.now }
+{
+    match text {
+        [] => None,
+        [b'-', b'0', ..] => None,
+        [b'-', digits @ ..] => negative(digits),
+        [b'0', _, ..] => None,
+        digits => positive(digits),
+    }
+}
