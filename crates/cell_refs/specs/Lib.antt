@@ -1,3 +1,4 @@
 -- What the contracts of this crate cite.
 pub mod Cell
 pub mod RefText
+pub mod Written

@@ -2,7 +2,9 @@
 #![tactic(auto)]
 
 mod cells;
+mod reading;
 mod references;
 
 pub use cells::Cell;
+pub use reading::read_ref;
 pub use references::RefText;

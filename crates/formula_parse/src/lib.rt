@@ -1,6 +1,10 @@
 //! The grammar of formulas, read into trees.
 #![tactic(auto)]
 
+mod faults;
+mod parser;
 mod trees;
 
+pub use faults::ParseFault;
+pub use parser::parse;
 pub use trees::{Term, Tree};
