@@ -1,7 +1,8 @@
 -- The grammar of formulas: `=`, and terms with one `+` between each two.
 use Rattle.std.specs.Prelude.{◌≡◌, ℕ, ◌≤◌, Bool, true, ◌&&◌, if◌then◌else◌, ◌==◌, nat_lt, pos, ◌≤ℤ◌, ◌<ℤ◌, int_le, List, [], ◌∷◌, ◌++◌, length, All, Option, Some, None, is_none, option_map, option_and_then}
 use Rattle.std.specs.List.{slice_split, list_all}
-use Rattle.std.specs.Str.{chars, all_ascii_digits}
+use Rattle.std.specs.Char.{is_ascii_digit}
+use Rattle.std.specs.Str.{chars}
 use Rattle.std.specs.Str.Parse.{IsNumeral, digits_value}
 use Rattle.cell_refs.specs.declared.references.RefText.{RefText}
 use Rattle.cell_refs.specs.Written.{reference_at}
@@ -45,7 +46,7 @@ pub record IsFormula (text : List ℕ) (terms : List Term) : Type 0 where
 
 -- one digit or more, and nothing else
 abbrev pub is_numeral : List ℕ → Bool
-is_numeral piece = nat_lt 0 (length piece) && all_ascii_digits piece
+is_numeral piece = nat_lt 0 (length piece) && list_all is_ascii_digit piece
 
 -- the reference, where it has no sheet and is the whole piece
 abbrev pub whole_reference : List ℕ → Option (RefText × ℕ) → Option Term

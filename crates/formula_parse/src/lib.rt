@@ -3,7 +3,9 @@
 
 mod faults;
 mod parser;
+mod terms;
 mod trees;
+mod viability;
 
 pub use faults::ParseFault;
 pub use parser::parse;
