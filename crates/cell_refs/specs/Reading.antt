@@ -1,7 +1,6 @@
 -- What a text in upper case begins with: each reader gives what it read and the text after it.
-use Rattle.std.specs.Prelude.{ℕ, Bool, true, false, ◌&&◌, nat_lt, nat_le, ◌==◌, if◌then◌else◌, List, [], ◌∷◌, take, drop, slice_index, Option, Some, None, codes, fold, ◌+◌, ◌-◌, ◌*◌}
+use Rattle.std.specs.Prelude.{ℕ, Bool, true, false, ◌&&◌, nat_lt, nat_le, ◌==◌, if◌then◌else◌, List, [], ◌∷◌, length, take_while, drop, slice_index, Option, Some, None, codes, fold, ◌+◌, ◌-◌, ◌*◌}
 use Rattle.std.specs.Char.{is_ascii_digit, is_ascii_uppercase}
-use Rattle.std.specs.List.{prefix_len}
 use Rattle.std.specs.Option.{option_map_or}
 use Rattle.std.specs.Str.Parse.{digits_value}
 use Rattle.cell_refs.specs.declared.references.RefText.{RefText}
@@ -14,9 +13,8 @@ None >>= f = None
 -- a number from 1 to the limit: digits to their end, the first of them not 0
 unfoldable pub number_at : ℕ → List ℕ → Option (ℕ × List ℕ)
 number_at limit text =
-    let count = prefix_len is_ascii_digit text in
-    let digits = take count text in
-    if nat_lt 48 (slice_index digits 0) && nat_le (digits_value 10 digits) limit then Some (digits_value 10 digits, drop count text) else None
+    let digits = take_while is_ascii_digit text in
+    if nat_lt 48 (slice_index digits 0) && nat_le (digits_value 10 digits) limit then Some (digits_value 10 digits, drop (length digits) text) else None
 
 -- a `$`, or nothing
 unfoldable pub mark_at : List ℕ → Bool × List ℕ
@@ -30,9 +28,8 @@ column_number letters = fold (λ n letter. 26 * n + (letter - 64)) 0 letters
 -- a column inside the grid: one to three letters, to their end
 unfoldable pub column_at : List ℕ → Option (ℕ × List ℕ)
 column_at text =
-    let count = prefix_len is_ascii_uppercase text in
-    let column = column_number (take count text) in
-    if nat_lt 0 count && nat_le count 3 && nat_le column 16384 then Some (column, drop count text) else None
+    let letters = take_while is_ascii_uppercase text in
+    if nat_lt 0 (length letters) && nat_le (length letters) 3 && nat_le (column_number letters) 16384 then Some (column_number letters, drop (length letters) text) else None
 
 -- what follows the word
 abbrev pub rest_after : List ℕ → List ℕ → Option (List ℕ)
@@ -49,7 +46,7 @@ sheet_number_at text = do
 
 -- a sheet with its `!`, or nothing
 unfoldable pub sheet_at : List ℕ → Option (Option ℕ × List ℕ)
-sheet_at text = option_map_or sheet_number_at (Some (None, text)) (rest_after (codes "SHEET") text)
+sheet_at text = option_map_or sheet_number_at (rest_after (codes "SHEET") text) (Some (None, text))
 
 -- a reference inside the grid, the digits of its row taken to their end
 unfoldable pub reference_in : List ℕ → Option (RefText × List ℕ)

@@ -1,8 +1,7 @@
-ghost use Rattle.std.specs.Prelude.{◌≡◌, ℕ, ◌≤◌, ◌<◌, ◌-◌, ◌^◌, length, option_map, IfSome, IfNone, SomeIff, IsTrue, codes};
+ghost use Rattle.std.specs.Prelude.{◌≡◌, ℕ, ◌≤◌, ◌<◌, ◌-◌, ◌^◌, length, option_map, IfSome, IfNone, SomeIff, IsTrue, codes, take_while};
 ghost use Rattle.std.specs.Str.{all_ascii_digits};
 ghost use Rattle.std.specs.Str.Parse.{digits_value};
 ghost use Rattle.std.specs.Char.{is_ascii_digit, is_ascii_alphabetic, to_ascii_uppercase};
-ghost use Rattle.std.specs.List.{prefix_len};
 ghost use Rattle.cell_refs.specs.declared.references.RefText.{RefText};
 ghost use Rattle.cell_refs.specs.Reading.{number_at, mark_at, column_at, rest_after, sheet_number_at, sheet_at, reference_in};
 ghost use Rattle.cell_refs.specs.Written.{capitals, reference_at, StandsAt};
@@ -114,11 +113,11 @@ fn column_of(text: &[u8]) -> Option<(u16, &[u8])>
 
 /// How many letters stand at the front.
 fn letters_len(text: &[u8]) -> usize
-    ensures { result ≡ prefix_len is_ascii_alphabetic text.now }
+    ensures { result ≡ length (take_while is_ascii_alphabetic text.now) }
 {
     text.iter()
-        .position(|byte| !byte.is_ascii_alphabetic())
-        .unwrap_or(text.len())
+        .take_while(|byte| byte.is_ascii_alphabetic())
+        .count()
 }
 
 /// The place of a letter in the alphabet, in any case.
@@ -150,11 +149,9 @@ pub(crate) fn number_of(text: &[u8], limit: u64) -> Option<(u64, &[u8])>
 
 /// How many digits stand at the front.
 fn digits_len(text: &[u8]) -> usize
-    ensures { result ≡ prefix_len is_ascii_digit text.now }
+    ensures { result ≡ length (take_while is_ascii_digit text.now) }
 {
-    text.iter()
-        .position(|byte| !byte.is_ascii_digit())
-        .unwrap_or(text.len())
+    text.iter().take_while(|byte| byte.is_ascii_digit()).count()
 }
 
 /// The number that digits stand for; None exactly where a `u64` doesn't hold it.
