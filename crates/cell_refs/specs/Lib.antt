@@ -1,3 +1,6 @@
 -- What the contracts of this crate cite.
+pub mod Area
 pub mod Cell
+pub mod Reading
 pub mod RefText
+pub mod Written

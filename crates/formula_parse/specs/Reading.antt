@@ -1,0 +1,21 @@
+-- What the readers of terms and sums answer.
+use Rattle.std.specs.Prelude.{◌≡◌, ℕ, Bool, true, false, if◌then◌else◌, List, [], ◌∷◌, Option, Some, None, Result, Ok, Err}
+use Rattle.std.specs.List.{list_all}
+use Rattle.formula_parse.specs.declared.faults.ParseFault.{ParseFault}
+use Rattle.formula_parse.specs.declared.faults.ParseFault.TheVariants as faults
+use Rattle.formula_parse.specs.declared.terms.TermFault.{TermFault}
+use Rattle.formula_parse.specs.declared.terms.TermFault.TheVariants.{NoTerm, TooLarge}
+use Rattle.formula_parse.specs.declared.trees.Term.{Term}
+use Rattle.formula_parse.specs.declared.viability.Progress.TheVariants as progress
+use Rattle.formula_parse.specs.Grammar.{is_within_limit, terms_of, pieces_of}
+use Rattle.formula_parse.specs.Progress.{viable_len}
+
+-- the term that a piece of text writes, where its number is within the limit
+abbrev pub term_within : Option Term → Result Term TermFault
+term_within None = Err NoTerm
+term_within (Some term) = if is_within_limit term then Ok term else Err TooLarge
+
+-- the terms of a sum, where its numbers are within the limit
+abbrev pub terms_within : List ℕ → Option (List Term) → Result (List Term) ParseFault
+terms_within sum None = Err (faults.Syntax (viable_len progress.Term sum))
+terms_within sum (Some terms) = if list_all is_within_limit terms then Ok terms else Err faults.NumberTooLarge

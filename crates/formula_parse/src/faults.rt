@@ -1,0 +1,17 @@
+/// Why a text was not parsed.
+#[derive(Clone, Copy, Debug, PartialEq, Eq)]
+pub enum ParseFault {
+    /// There was no memory.
+    Memory,
+    /// The text has over 8,192 characters.
+    TooLong,
+    /// More than 64 calls, or more than 128 calls and parentheses, are open at one place.
+    TooDeep,
+    /// The text is no formula. The longest part at its front with which some formula begins has this
+    /// many bytes.
+    Syntax(usize),
+    /// An area has over 65,536 cells.
+    BadRange,
+    /// A number is over 999,999,999,999,999.
+    NumberTooLarge,
+}
