@@ -1,5 +1,5 @@
 -- Areas: the cells between two corners.
-use Rattle.std.specs.Prelude.{◌≡◌, ℕ, ◌+◌, ◌-◌, ◌*◌, ◌≤◌, List, map, flat_map, min, max, unwrap_or}
+use Rattle.std.specs.Prelude.{◌≡◌, ◌==◌, ◌&&◌, nat_le, Bool, ℕ, ◌+◌, ◌-◌, ◌*◌, ◌≤◌, List, map, flat_map, min, max, unwrap_or}
 use Rattle.std.specs.List.{range_with_len}
 use Rattle.cell_refs.specs.declared.areas.Area.{Area}
 use Rattle.cell_refs.specs.declared.cells.Cell.{Cell}
@@ -20,6 +20,14 @@ pub record IsInside (area : Area) (cell : Cell) : Type 0 where
   pub above : cell.row ≤ area.bottom
   pub after : area.left ≤ cell.col
   pub before : cell.col ≤ area.right
+
+-- the same as a test
+abbrev pub area_has : Area → Cell → Bool
+area_has area cell = (cell.sheet == area.sheet) && (nat_le area.top cell.row && (nat_le cell.row area.bottom && (nat_le area.left cell.col && nat_le cell.col area.right)))
+
+-- the number of an area's cells
+abbrev pub size_of : Area → ℕ
+size_of area = (area.bottom + 1 - area.top) * (area.right + 1 - area.left)
 
 -- the area between two references, whichever corners they are; the second one's sheet isn't used
 abbrev pub area_of : RefText → RefText → ℕ → Area

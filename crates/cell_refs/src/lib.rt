@@ -1,7 +1,7 @@
 //! Cells of a workbook's grid, areas of them, and the written references that name them.
 #![tactic(auto)]
 
-mod areas;
+pub mod areas;
 mod cells;
 mod memory;
 mod reading;
