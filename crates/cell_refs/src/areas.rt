@@ -1,4 +1,4 @@
-ghost use Rattle.std.specs.Prelude.{◌≡◌, ◌↔◌, ◌≤◌, IsTrue, List, length};
+ghost use Rattle.std.specs.Prelude.{◌≡◌, ◌↔◌, ◌≤◌, IsTrue, length};
 
 use super::cells::Cell;
 use super::references::RefText;
@@ -86,15 +86,15 @@ pub struct Cells {
 }
 
 impl Model for Cells {
-    ghost use Rattle.std.specs.Prelude.{List, [], ◌++◌, flat_map, ◌+◌, if◌then◌else◌};
+    ghost use Rattle.std.specs.Prelude.{◌≡◌, ◌≤◌, List, [], false, if◌then◌else◌};
     ghost use Rattle.cell_refs.specs.declared.cells.Cell.{Cell};
-    ghost use Rattle.cell_refs.specs.Area.{numbers, row_cells};
+    ghost use Rattle.cell_refs.specs.Area.{cells_from};
 
     ghost Value = { List Cell };
 
-    ghost view = { λ c. if c.ended then [] else row_cells c.sheet c.col c.right c.row ++ flat_map (row_cells c.sheet c.left c.right) (numbers (c.row + 1) c.bottom) };
+    ghost view = { λ c. if c.ended then [] else cells_from c.sheet c.left c.right c.bottom c.row c.col };
 
-    ghost invariant = { λ c. c.ended ≡ true ⊎ ((c.row ≤ c.bottom) × (c.col ≤ c.right) × (c.left ≤ c.right)) };
+    ghost invariant = { λ c. c.ended ≡ false → (c.row ≤ c.bottom) × (c.col ≤ c.right) × (c.left ≤ c.right) };
 }
 
 impl Iterator for Cells {
