@@ -4,6 +4,7 @@ pub mod Capitals
 pub mod CellOrder
 pub mod Columns
 pub mod Front
+pub mod Listing
 pub mod Numbers
 pub mod Numerals
 pub mod SheetWord

@@ -66,7 +66,7 @@ impl Area {
             bottom: self.bottom,
             row: self.top,
             col: self.left,
-            ended: self.top > self.bottom || self.left > self.right,
+            ended: self.size() == 0,
         }
     }
 }
