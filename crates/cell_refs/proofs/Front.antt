@@ -10,9 +10,9 @@ use Rattle.std.specs.Str.{all_ascii_digits}
 use Rattle.cell_refs.specs.declared.cells.Cell.{Cell}
 use Rattle.cell_refs.specs.declared.references.RefText.{RefText}
 use Rattle.cell_refs.specs.Cell.{IsCell}
-use Rattle.cell_refs.specs.RefText.{cell_at}
+use Rattle.cell_refs.specs.RefText.{IsReference, cell_at}
 use Rattle.cell_refs.specs.Reading.{reference_in}
-use Rattle.cell_refs.specs.Written.{IsReference, StandsAt, capitals, cell_text, column_letters, mark, plain_reference, reference_at, reference_text, sheet_part}
+use Rattle.cell_refs.specs.Written.{StandsAt, capitals, cell_text, column_letters, mark, plain_reference, reference_at, reference_text, sheet_part}
 use Rattle.cell_refs.proofs.BothWays.{both_true, reference_again, reference_capitals, reference_takes, sheet_capitals}
 use Rattle.cell_refs.proofs.Capitals.{digit_upper, upper_digit}
 use Rattle.cell_refs.proofs.Columns.{letters_begin}

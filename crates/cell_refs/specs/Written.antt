@@ -3,8 +3,7 @@ use Rattle.std.specs.Prelude.{◌≡◌, ℕ, Bool, true, false, ◌==◌, if◌
 use Rattle.std.specs.Char.{is_ascii_digit, to_ascii_uppercase}
 use Rattle.cell_refs.specs.declared.cells.Cell.{Cell}
 use Rattle.cell_refs.specs.declared.references.RefText.{RefText}
-use Rattle.cell_refs.specs.Cell.{IsCell}
-use Rattle.cell_refs.specs.RefText.{cell_at}
+use Rattle.cell_refs.specs.RefText.{IsReference}
 use Rattle.cell_refs.specs.Reading.{reference_in}
 
 -- how often the last letter has gone round from A to Z before the column
@@ -44,10 +43,6 @@ cell_text cell = reference_text (plain_reference cell)
 -- a text with its letters in upper case
 abbrev pub capitals : List ℕ → List ℕ
 capitals text = map to_ascii_uppercase text
-
--- a reference inside the grid
-abbrev pub IsReference : RefText → Type 0
-IsReference r = IsCell (cell_at r 1)
 
 -- the reference is the first n bytes of the text, its letters in any case, and no digit follows
 pub record StandsAt (text : List ℕ) (r : RefText) (n : ℕ) : Type 0 where

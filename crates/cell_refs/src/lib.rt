@@ -20,3 +20,6 @@ pub use reading::read_ref;
 pub use references::RefText;
 pub use steps::Steps;
 pub use writing::{write_cell, write_ref};
+
+#[cfg(test)]
+mod tests;
