@@ -1,8 +1,8 @@
 -- A reference at the front of a text in upper case, both ways.
-use Rattle.std.proofs.Common.{◌≡◌, ◌≢◌, ℕ, zero, suc, ◌+◌, ◌-◌, ◌<◌, ◌≤◌, ◌^◌, Bool, true, false, cond, ◌&&◌, ◌==◌, List, [], ◌∷◌, ◌++◌, length, map, slice_index, Option, Some, None, IfSome, unwrap_or, codes, decimal, refl, ap, sym, ◌∙◌, arith, rules, append_assoc}
+use Rattle.std.proofs.Common.{◌≡◌, ◌≢◌, ℕ, ◌<◌, ◌≤◌, ◌^◌, Bool, true, false, cond, ◌&&◌, ◌==◌, List, [], ◌∷◌, ◌++◌, length, slice_index, Option, Some, None, IfSome, unwrap_or, codes, decimal, refl, ap, sym, ◌∙◌, arith, append_assoc}
 use Rattle.std.proofs.lemmas.Bool.Decides.{nat_tests}
 use Rattle.std.proofs.lemmas.Fmt.{decimal_nonempty, first_decimal, digits_decimal}
-use Rattle.std.specs.Char.{is_ascii_digit, is_ascii_uppercase, to_ascii_uppercase}
+use Rattle.std.specs.Char.{is_ascii_digit, is_ascii_uppercase}
 use Rattle.std.specs.List.{list_all}
 use Rattle.std.specs.Option.{option_map_or}
 use Rattle.std.specs.Str.{all_ascii_digits}
@@ -13,7 +13,7 @@ use Rattle.cell_refs.specs.Written.{column_letters, mark}
 use Rattle.cell_refs.proofs.Columns.{column_again, column_takes, letters_begin}
 use Rattle.cell_refs.proofs.Numbers.{number_again, number_takes}
 use Rattle.cell_refs.proofs.Numerals.{numerals}
-use Rattle.cell_refs.proofs.SheetWord.{rest_after-append, rest_after_front}
+use Rattle.cell_refs.proofs.SheetWord.{rest_after_front}
 
 pub bind_ok : {A B : Type 0} (o : Option A) (f : A → Option B) (y : B) → (o >>= f) ≡ Some y → (x : A) × (o ≡ Some x) × (f x ≡ Some y)
 bind_ok None f y e = cc

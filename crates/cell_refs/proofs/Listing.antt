@@ -1,18 +1,16 @@
 -- The cells of an area as a list: how it goes on, what it has, and in which order.
-use Rattle.std.proofs.Common.{◌≡◌, ℕ, zero, suc, ◌+◌, ◌-◌, ◌*◌, ◌<◌, ◌≤◌, Bool, true, false, cond, ◌==◌, ◌⊎◌, List, [], ◌∷◌, ◌++◌, map, length, get_or, flat_map, refl, ap, sym, subst, ◌∙◌, inl, inr, ⊎_elim, arith, rules, length-append}
+use Rattle.std.proofs.Common.{◌≡◌, ℕ, zero, suc, ◌+◌, ◌-◌, ◌*◌, ◌<◌, ◌≤◌, Bool, true, false, cond, ◌==◌, ◌⊎◌, List, [], ◌∷◌, ◌++◌, map, length, get_or, flat_map, refl, ap, sym, subst, ◌∙◌, inl, inr, ⊎_elim, arith, length-append}
 use Rattle.std.proofs.Math.Nat.{mul-zero, suc-mul, zero-mul}
 use Rattle.std.proofs.lemmas.Bool.Decides.{nat_tests}
-use Rattle.std.proofs.lemmas.List.{length-map}
 use Rattle.std.proofs.lemmas.List.Elements.{Contains-append_cases, Contains-append_left, Contains-append_right, Contains-get_or}
 use Rattle.std.proofs.lemmas.List.FromFn.{length-map-range_with_len}
 use Rattle.std.proofs.lemmas.List.Kept.{AllPairs-cons}
 use Rattle.std.specs.List.{All, AllPairs, Contains, range_with_len}
-use Rattle.std.specs.Ordering.{nat_cmp, ordering_then}
 use Rattle.std.specs.declared.cmp.Ordering.TheVariants.{Less}
 use Rattle.cell_refs.specs.declared.areas.Area.{Area}
 use Rattle.cell_refs.specs.declared.cells.Cell.{Cell}
-use Rattle.cell_refs.specs.Area.{IsInside, cells_from, cells_of, numbers, row_cells, size_of}
-use Rattle.cell_refs.specs.Cell.{cell_cmp}
+use Rattle.cell_refs.specs.Area.{IsArea, IsInside, cells_from, cells_of, numbers, row_cells, size_of}
+use Rattle.cell_refs.specs.Cell.{IsCell, cell_cmp}
 
 range_first : (low n m : ℕ) → n ≡ suc m → range_with_len low n ≡ low ∷ range_with_len (low + 1) m
 range_first low n m e = ap (range_with_len low) e
@@ -207,11 +205,6 @@ pub steps_to_row : (now : List Cell) (ended : Bool) (sheet left right bottom row
 steps_to_row now ended sheet left right bottom row col is going last h =
     is ∙ (going_on ended (cells_from sheet left right bottom row col) going ∙ (next_row sheet left right bottom row col last h ∙ ap (λ cells. (record { sheet = sheet; row = row; col = col }) ∷ cells) (sym (going_on ended (cells_from sheet left right bottom (row + 1) left) going))))
 
-pub steps_to_end : (now : List Cell) (ended : Bool) (sheet left right bottom row col : ℕ) → now ≡ cond ended [] (cells_from sheet left right bottom row col) → ended ≡ false → col ≡ right → row ≡ bottom
-    → now ≡ (record { sheet = sheet; row = row; col = col }) ∷ []
-steps_to_end now ended sheet left right bottom row col is going last h =
-    is ∙ (going_on ended (cells_from sheet left right bottom row col) going ∙ no_next sheet left right bottom row col last h)
-
 -- an area without cells lacks rows or columns
 lacks : (rows columns : ℕ) → rows * columns ≡ 0 → (rows ≡ 0) ⊎ (columns ≡ 0)
 lacks zero columns e = inl refl
@@ -231,3 +224,11 @@ begins area false e =
     let some : size_of area ≡ 0 → ⊥ = λ none. (let test : (size_of area == 0) ≡ true = grind (arith, nat_tests, none) in let both : false ≡ true = e ∙ test in cc) in
     let both = has_both (area.bottom + 1 - area.top) (area.right + 1 - area.left) some in
     sym (from_first area (omega (arith, both.0)))
+
+-- an area inside the grid has cells of the grid alone
+pub grid_cells : (area : Area) (cell : Cell) → IsArea area → IsInside area cell → IsCell cell
+grid_cells area cell fits h = record {
+  sheet = rw h.sheet fits.first.sheet;
+  row = (omega (arith, h.below, fits.first.row.0), omega (arith, h.above, fits.last.row.1));
+  col = (omega (arith, h.after, fits.first.col.0), omega (arith, h.before, fits.last.col.1));
+}

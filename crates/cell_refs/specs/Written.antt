@@ -16,7 +16,8 @@ last_letter column = if column == 0 then [] else (65 + (column - 1) % 26) ∷ []
 
 -- the letters of a column, at most three: 1 is A, 26 is Z, 27 is AA
 unfoldable pub column_letters : ℕ → List ℕ
-column_letters column = last_letter (rounds (rounds column)) ++ (last_letter (rounds column) ++ last_letter column)
+column_letters column =
+    last_letter (rounds (rounds column)) ++ (last_letter (rounds column) ++ last_letter column)
 
 -- `$` before a part that is marked as absolute
 abbrev pub mark : Bool → List ℕ
@@ -30,11 +31,19 @@ sheet_part (Some sheet) = codes "Sheet" ++ (decimal sheet ++ codes "!")
 
 -- a reference as it is written
 unfoldable pub reference_text : RefText → List ℕ
-reference_text r = sheet_part r.sheet ++ (mark r.col_fixed ++ (column_letters r.col ++ (mark r.row_fixed ++ decimal r.row)))
+reference_text r =
+    sheet_part r.sheet
+    ++ (mark r.col_fixed ++ (column_letters r.col ++ (mark r.row_fixed ++ decimal r.row)))
 
 -- a reference to a cell that marks nothing, and names no sheet where the cell is on the first
 abbrev pub plain_reference : Cell → RefText
-plain_reference cell = record { sheet = if cell.sheet == 1 then None else Some cell.sheet; row = cell.row; col = cell.col; row_fixed = false; col_fixed = false }
+plain_reference cell = record {
+  sheet = if cell.sheet == 1 then None else Some cell.sheet;
+  row = cell.row;
+  col = cell.col;
+  row_fixed = false;
+  col_fixed = false;
+}
 
 -- a cell as it is written
 unfoldable pub cell_text : Cell → List ℕ
@@ -53,4 +62,5 @@ pub record StandsAt (text : List ℕ) (r : RefText) (n : ℕ) : Type 0 where
 
 -- the reference at the front of a text, and its length
 unfoldable pub reference_at : List ℕ → Option (RefText × ℕ)
-reference_at text = option_map (λ found. (found.0, length text - length found.1)) (reference_in (capitals text))
+reference_at text =
+    option_map (λ found. (found.0, length text - length found.1)) (reference_in (capitals text))

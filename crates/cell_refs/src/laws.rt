@@ -1,12 +1,12 @@
 //! Laws over the definitions, each the contract of a function without a body.
 
-ghost use Rattle.std.specs.Prelude.{◌≡◌, ℕ, ◌≤◌, ◌↔◌, ◌++◌, List, Some, length, slice_index, true, false, Contains, AllPairs};
+ghost use Rattle.std.specs.Prelude.{◌≡◌, ℕ, ◌≤◌, ◌↔◌, ◌++◌, List, Some, length, slice_index, true, false, Contains, AllPairs, IsAscii};
 ghost use Rattle.std.specs.Char.{is_ascii_digit};
 ghost use Rattle.std.specs.declared.cmp.Ordering.TheVariants.{Less};
 ghost use Rattle.cell_refs.specs.declared.areas.Area.{Area};
 ghost use Rattle.cell_refs.specs.declared.cells.Cell.{Cell};
 ghost use Rattle.cell_refs.specs.declared.references.RefText.{RefText};
-ghost use Rattle.cell_refs.specs.Area.{IsInside, area_has, cells_of, size_of};
+ghost use Rattle.cell_refs.specs.Area.{IsArea, IsInside, area_has, cells_of, size_of};
 ghost use Rattle.cell_refs.specs.Cell.{IsCell, cell_cmp};
 ghost use Rattle.cell_refs.specs.RefText.{IsReference, cell_at};
 ghost use Rattle.cell_refs.specs.Written.{StandsAt, cell_text, plain_reference, reference_at, reference_text};
@@ -26,10 +26,18 @@ pub fn written_text_reads_back()
     ensures means { (cell : Cell) → cell_at (plain_reference cell) 1 ≡ cell }
 {}
 
+/// Cells and references are written in ASCII, and no two cells alike.
+pub fn each_cell_has_its_text()
+    ensures reference { (r : RefText) → IsReference r → IsAscii (reference_text r) }
+    ensures cell { (cell : Cell) → IsCell cell → IsAscii (cell_text cell) }
+    ensures one { (a b : Cell) → IsCell a → IsCell b → cell_text a ≡ cell_text b → a ≡ b }
+{}
+
 /// An area's list has exactly the cells between its corners, in the order of cells and so each once.
 pub fn an_area_lists_its_cells()
     ensures member { (area : Area) (cell : Cell) → Contains (cells_of area) cell ↔ IsInside area cell }
     ensures ordered { (area : Area) → AllPairs (λ a b. cell_cmp a b ≡ Less) (cells_of area) }
     ensures count { (area : Area) → length (cells_of area) ≡ size_of area }
-    ensures inside { (area : Area) (cell : Cell) → (area_has area cell ≡ true) ↔ IsInside area cell }
+    ensures grid { (area : Area) (cell : Cell) → IsArea area → IsInside area cell → IsCell cell }
+    ensures test { (area : Area) (cell : Cell) → (area_has area cell ≡ true) ↔ IsInside area cell }
 {}

@@ -1,4 +1,8 @@
+ghost use Rattle.std.specs.Prelude.{◌≡◌, ◌<◌};
+
 use super::*;
+use std::marker::Brand;
+use std::sync::ledger::{Blank, Ledger};
 use std::test::Fail;
 
 /// A reference without `$`.
@@ -110,4 +114,20 @@ fn an_area_by_rows(rt: HostRuntime) {
         assert_eq!(rt; cells.next(), Some(Cell { sheet: 3, row, col }));
     }
     assert_eq!(rt; cells.next(), None);
+}
+
+/// Two steps on a counter of its own.
+fn two_steps<L: Ledger>(blank: Blank)
+    requires name { blank.name ≡ L.name }
+    requires parts { blank.parts ≡ L.parts }
+    requires some { 0 < blank.parts }
+{
+    let mut steps = Steps::<L>::new(blank);
+    steps.tick();
+    steps.tick();
+}
+
+#[test]
+fn a_counter_of_its_own() {
+    two_steps::<Brand>(Blank::new(1));
 }

@@ -1,4 +1,4 @@
-use Rattle.std.proofs.Common.{arith, refl}
+use Rattle.std.proofs.Common.{refl}
 use Rattle.cell_refs.proofs.SheetWord.{sheet_word, no_sheet_word, no_sheet_room}
 use Rattle.cell_refs.proofs.reading.after_sheet.Goals as goal
 use Rattle.cell_refs.proofs.reading.after_sheet.Goals.{in_default-via-in-Some+else-eq_ignore_ascii_case, in_default-via-in_default}
