@@ -30,3 +30,5 @@ impl Value {
         }
     }
 }
+
+const _: () = prove!(size_of::<Value>() <= 24);
