@@ -36,7 +36,7 @@ three false b d e = refl
 pub all_three : (a b d : Bool) → a ≡ true → b ≡ true → d ≡ true → (a && (b && d)) ≡ true
 all_three a b d e f g = grind arith
 
-leb_false : (m n : ℕ) → n < m → leb m n ≡ false
+pub leb_false : (m n : ℕ) → n < m → leb m n ≡ false
 leb_false m n h = grind (arith, nat_tests)
 
 pub leb_true : (m n : ℕ) → m ≤ n → leb m n ≡ true

@@ -1,14 +1,15 @@
 -- What values count as where a boolean or a text is wanted, and texts joined.
-use Rattle.std.specs.Prelude.{ℕ, ℤ, pos, Bool, true, false, not, nat_le, if◌then◌else◌, Result, Ok, Err, List, [], ◌∷◌, ◌++◌, map, length, codes}
+use Rattle.std.specs.Prelude.{ℕ, ℤ, pos, Bool, true, false, not, if◌then◌else◌, Result, Ok, Err, List, [], ◌∷◌, ◌++◌, map, codes}
 use Rattle.std.specs.Char.{to_ascii_lowercase}
 use Rattle.std.specs.Fmt.{signed_decimal}
+use Rattle.std.specs.Option.{option_map_or}
 use Rattle.std.specs.Ordering.{int_eq}
-use Rattle.std.specs.Str.{bytes_eq, chars}
+use Rattle.std.specs.Str.{bytes_eq}
 use Rattle.cell_values.specs.declared.errors.ErrorKind.{ErrorKind}
 use Rattle.cell_values.specs.declared.errors.ErrorKind.TheVariants as errors
 use Rattle.cell_values.specs.declared.values.Value.{Value}
 use Rattle.cell_values.specs.declared.values.Value.TheVariants as values
-use Rattle.cell_values.specs.Text.{MOST_CHARACTERS}
+use Rattle.cell_values.specs.Text.{if_short}
 
 -- a text's bytes with `A` to `Z` made `a` to `z`
 abbrev pub folded : List ℕ → List ℕ
@@ -36,7 +37,7 @@ text_of values.Blank = Ok []
 
 -- two texts after one another; too long a text is `#VALUE!`
 abbrev pub joined_texts : List ℕ → List ℕ → Value
-joined_texts s t = if nat_le (length (chars (s ++ t))) MOST_CHARACTERS then values.Text (s ++ t) else values.Error errors.Value
+joined_texts s t = option_map_or values.Text (if_short (s ++ t)) (values.Error errors.Value)
 
 -- what an operation on texts makes of two values: the first error is the answer
 abbrev pub on_texts : (List ℕ → List ℕ → Value) → Result (List ℕ) ErrorKind → Result (List ℕ) ErrorKind → Value

@@ -1,6 +1,7 @@
 ghost use Rattle.std.specs.Prelude.{◌≡◌, IfOk};
+ghost use Rattle.std.specs.Fmt.{signed_decimal};
 ghost use Rattle.cell_values.specs.Value.{number_of};
-ghost use Rattle.cell_values.specs.Coercion.{truth_of, truth_of_text, text_of, joined};
+ghost use Rattle.cell_values.specs.Coercion.{truth_of, truth_of_text, text_of, joined, joined_texts};
 
 use super::digits::{signed, trim_spaces};
 use super::errors::{ErrorKind, Memory};
@@ -48,5 +49,52 @@ fn text_to_bool(text: &str) -> Result<bool, ErrorKind>
         Ok(false)
     } else {
         Err(ErrorKind::Value)
+    }
+}
+
+/// The text that a value counts as.
+pub fn to_text(alloc: Global, v: &Value) -> Result<Result<Text, ErrorKind>, Memory>
+    ensures { IfOk result (λ text. text ≡ text_of v.now) }
+{
+    let text = match v {
+        Value::Num(n) => number_to_text(alloc, *n),
+        Value::Text(text) => text.copy(),
+        Value::Bool(true) => Text::known(alloc, "TRUE"),
+        Value::Bool(false) => Text::known(alloc, "FALSE"),
+        Value::Error(kind) => return Ok(Err(*kind)),
+        Value::Blank => Text::known(alloc, ""),
+    };
+    match text {
+        Ok(text) => Ok(Ok(text)),
+        Err(refused) => Err(refused),
+    }
+}
+
+/// The decimals of a number.
+fn number_to_text(alloc: Global, n: i64) -> Result<Text, Memory>
+    ensures { IfOk result (λ text. text ≡ signed_decimal n) }
+{
+    Text::known(alloc, Buffer::new().format(n))
+}
+
+/// Two values joined as texts.
+pub fn join(alloc: Global, a: &Value, b: &Value) -> Result<Value, Memory>
+    ensures { IfOk result (λ value. value ≡ joined a.now b.now) }
+{
+    match (to_text(alloc, a)?, to_text(alloc, b)?) {
+        (Err(kind), _) => Ok(Value::Error(kind)),
+        (Ok(_), Err(kind)) => Ok(Value::Error(kind)),
+        (Ok(s), Ok(t)) => join_texts(alloc, &s, &t),
+    }
+}
+
+/// Two texts after one another, or `#VALUE!` where they are too long together.
+fn join_texts(alloc: Global, s: &Text, t: &Text) -> Result<Value, Memory>
+    ensures { IfOk result (λ value. value ≡ joined_texts s.now t.now) }
+{
+    match s.followed_by(alloc, t) {
+        Ok(Some(both)) => Ok(Value::Text(both)),
+        Ok(None) => Ok(Value::Error(ErrorKind::Value)),
+        Err(refused) => Err(refused),
     }
 }

@@ -13,7 +13,7 @@ mod topics;
 mod values;
 mod words;
 
-pub use coercions::{to_bool, to_number};
+pub use coercions::{join, to_bool, to_number, to_text};
 pub use comparison::{CompareOp, compare};
 pub use digits::read_number_word;
 pub use errors::{ErrorKind, Memory};

@@ -156,7 +156,8 @@ fn text_of(alloc: Global, bytes: &[u8]) -> Result<Text, ValueFault>
     match Text::new(alloc, s) {
         Ok(text) => Ok(text),
         Err(TextFault::Memory) => Err(ValueFault::Memory),
-        Err(_) => Err(ValueFault::Form),
+        Err(TextFault::TooLong) => Err(ValueFault::Form),
+        Err(TextFault::Control(_)) => Err(ValueFault::Form),
     }
 }
 
