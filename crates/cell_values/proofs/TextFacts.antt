@@ -17,7 +17,7 @@ use Rattle.cell_values.specs.declared.texts.TextFault.TheVariants.{Control}
 use Rattle.cell_values.specs.TextFault.{IsFaultOf}
 use Rattle.cell_values.specs.Text.{is_text}
 use Rattle.cell_values.specs.Word.{text_of_bytes}
-use Rattle.cell_values.proofs.DigitFacts.{all_three, leb_true, false_from_not, own}
+use Rattle.cell_values.proofs.DigitFacts.{all_three, leb_true, false_from_not, both_true, own}
 
 -- UTF-8 of few enough characters, none of them a control character
 pub text_from_parts : (s : List ℕ) → IsUtf8 s → length (chars s) ≤ 32767 → list_any is_ascii_control s ≡ false → is_text s ≡ true
@@ -28,10 +28,6 @@ pub record TextParts (s : List ℕ) : Type 0 where
   pub utf8 : IsUtf8 s
   pub few : length (chars s) ≤ 32767
   pub none : list_any is_ascii_control s ≡ false
-
-both_true : (a b : Bool) → (a && b) ≡ true → (a ≡ true) × (b ≡ true)
-both_true true b e = (refl, e)
-both_true false b e = absurd (cc)
 
 not_true : (b : Bool) → not b ≡ true → b ≡ false
 not_true true e = absurd (cc)
