@@ -2,5 +2,6 @@
 pub mod ComparisonLaws
 pub mod DigitFacts
 pub mod OperatorLaws
+pub mod Readings
 pub mod TextFacts
 pub mod WordLaws

@@ -28,10 +28,10 @@ undoubled_other : (c : ℕ) (xs : List ℕ) → eqb c 34 ≡ false → undoubled
 undoubled_other c [] e = ap (λ b. cond b (Some []) None) e
 undoubled_other c (d ∷ xs) e = ap (λ b. cond b (cond (eqb d 34) (option_map (λ t. 34 ∷ t) (undoubled xs)) None) (option_map (λ t. c ∷ t) (undoubled (d ∷ xs)))) e
 
-equal_from_eqb : (c d : ℕ) → eqb c d ≡ true → c ≡ d
+pub equal_from_eqb : (c d : ℕ) → eqb c d ≡ true → c ≡ d
 equal_from_eqb c d e = grind (arith, nat_tests)
 
-lt_from_ltb : (m n : ℕ) → ltb m n ≡ true → m < n
+pub lt_from_ltb : (m n : ℕ) → ltb m n ≡ true → m < n
 lt_from_ltb m n e = grind (arith, nat_tests)
 
 undoubled_step : (c : ℕ) (b : Bool) (xs : List ℕ) → eqb c 34 ≡ b → undoubled (cond b (34 ∷ 34 ∷ []) (c ∷ []) ++ xs) ≡ option_map (λ t. c ∷ t) (undoubled xs)
