@@ -83,10 +83,10 @@ by_parts_is (Truth b) Blank p q = absurd q
 
 pub preorder : IsTotalPreorder IsPlain value_cmp
 preorder = record {
-    antisymm = λ a b p q. by_parts_is a b p q ∙ parts_total.antisymm a b ∙ ap ordering_reverse (sym (by_parts_is b a q p));
-    trans = λ a b c p q r e f. by_parts_is a c p r ∙ parts_total.trans a b c (sym (by_parts_is a b p q) ∙ e) (sym (by_parts_is b c q r) ∙ f);
-    congr = λ a b c p q r e. by_parts_is a c p r ∙ parts_total.congr a b c (sym (by_parts_is a b p q) ∙ e) ∙ sym (by_parts_is b c q r);
-  }
+  antisymm = λ a b p q. by_parts_is a b p q ∙ parts_total.antisymm a b ∙ ap ordering_reverse (sym (by_parts_is b a q p));
+  trans = λ a b c p q r e f. by_parts_is a c p r ∙ parts_total.trans a b c (sym (by_parts_is a b p q) ∙ e) (sym (by_parts_is b c q r) ∙ f);
+  congr = λ a b c p q r e. by_parts_is a c p r ∙ parts_total.congr a b c (sym (by_parts_is a b p q) ∙ e) ∙ sym (by_parts_is b c q r);
+}
 
 -- a value with the ASCII letters of its text in lower case
 abbrev pub lowered : Value → Value

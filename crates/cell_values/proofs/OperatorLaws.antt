@@ -44,13 +44,13 @@ joined_is a b s t e f short =
 
 -- where no operand is an error and nothing is too long, it doesn't matter which two are joined first
 pub joined_assoc : (a b c : Value) (s t u : List ℕ) → text_of a ≡ Ok s → text_of b ≡ Ok t → text_of c ≡ Ok u
-  → length (chars (s ++ t)) ≤ 32767 → length (chars (t ++ u)) ≤ 32767 → length (chars ((s ++ t) ++ u)) ≤ 32767
-  → joined (joined a b) c ≡ joined a (joined b c)
+    → length (chars (s ++ t)) ≤ 32767 → length (chars (t ++ u)) ≤ 32767 → length (chars ((s ++ t) ++ u)) ≤ 32767
+    → joined (joined a b) c ≡ joined a (joined b c)
 joined_assoc a b c s t u e f g first last whole =
     let left : joined (joined a b) c ≡ values.Text ((s ++ t) ++ u) =
-        ap (λ v. joined v c) (joined_is a b s t e f first) ∙ joined_is (values.Text (s ++ t)) c (s ++ t) u refl g whole in
+    ap (λ v. joined v c) (joined_is a b s t e f first) ∙ joined_is (values.Text (s ++ t)) c (s ++ t) u refl g whole in
     let right : joined a (joined b c) ≡ values.Text (s ++ (t ++ u)) =
-        ap (joined a) (joined_is b c t u f g last) ∙ joined_is a (values.Text (t ++ u)) s (t ++ u) e refl (rw (← (append_assoc s t u)) whole) in
+    ap (joined a) (joined_is b c t u f g last) ∙ joined_is a (values.Text (t ++ u)) s (t ++ u) e refl (rw (← (append_assoc s t u)) whole) in
     left ∙ ap values.Text (append_assoc s t u) ∙ sym right
 
 choice : {A : Type 0} (b : Bool) (x y z : A) → cond b x y ≡ z → ((b ≡ true) × (x ≡ z)) ⊎ ((b ≡ false) × (y ≡ z))
@@ -66,8 +66,9 @@ num_same k q e = cc
 num_in_magnitude : (k q : ℤ) → within_magnitude k ≡ values.Num q → k ≡ q
 num_in_magnitude k q e =
     elim (choice (int_le (neg_ℤ MAGNITUDE) k && int_le k MAGNITUDE) (values.Num k) (values.Error errors.Num) (values.Num q) e) [
-      inl h ↦ num_same k q h.1
-    | inr h ↦ absurd (no_error errors.Num q h.1) ]
+      | inl h ↦ num_same k q h.1
+      | inr h ↦ absurd (no_error errors.Num q h.1)
+    ]
 
 zero_from_test : (k : ℤ) → int_eq k (pos 0) ≡ true → k ≡ pos 0
 zero_from_test k e = tells_apart exact_signed k (pos 0) e
@@ -79,12 +80,14 @@ add_nothing k = omega (arith, ints)
 pub quotient_times : (m n q : ℤ) → quotient m n ≡ values.Num q → q *ℤ n ≡ m
 quotient_times m n q e =
     elim (choice (int_eq n (pos 0)) (values.Error errors.Div0) (cond (int_eq (int_rem m n) (pos 0)) (within_magnitude (int_div m n)) (values.Error errors.Num)) (values.Num q) e) [
-      inl h ↦ absurd (no_error errors.Div0 q h.1)
-    | inr h ↦ elim (choice (int_eq (int_rem m n) (pos 0)) (within_magnitude (int_div m n)) (values.Error errors.Num) (values.Num q) h.1) [
-          inr k ↦ absurd (no_error errors.Num q k.1)
+      | inl h ↦ absurd (no_error errors.Div0 q h.1)
+      | inr h ↦ elim (choice (int_eq (int_rem m n) (pos 0)) (within_magnitude (int_div m n)) (values.Error errors.Num) (values.Num q) h.1) [
+        | inr k ↦ absurd (no_error errors.Num q k.1)
         | inl k ↦ (let same = num_in_magnitude (int_div m n) q k.1 in
             let nothing = zero_from_test (int_rem m n) k.0 in
-            ap (λ x. x *ℤ n) (sym same) ∙ sym (add_nothing (int_div m n *ℤ n)) ∙ ap (λ x. int_div m n *ℤ n +ℤ x) (sym nothing) ∙ quot-rem m n) ] ]
+            ap (λ x. x *ℤ n) (sym same) ∙ sym (add_nothing (int_div m n *ℤ n)) ∙ ap (λ x. int_div m n *ℤ n +ℤ x) (sym nothing) ∙ quot-rem m n)
+      ]
+    ]
 
 some_divisor : (b : ℕ) → (pos b ≡ pos 0 → ⊥) → 0 < b
 some_divisor zero other = absurd (other refl)

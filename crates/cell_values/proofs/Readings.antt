@@ -47,8 +47,9 @@ found_passes : {A : Type 0} (p : A → Bool) (xs : List A) (x : A) → find p xs
 found_passes p [] x e = absurd (cc)
 found_passes p (y ∷ ys) x e =
     elim (choice (p y) (Some y) (find p ys) (Some x) e) [
-      inl h ↦ subst (λ k. p k ≡ true) (some_same y x h.1) h.0
-    | inr h ↦ found_passes p ys x h.1 ]
+      | inl h ↦ subst (λ k. p k ≡ true) (some_same y x h.1) h.0
+      | inr h ↦ found_passes p ys x h.1
+    ]
 
 le_from_leb : (m n : ℕ) → leb m n ≡ true → m ≤ n
 le_from_leb m n e = grind (arith, nat_tests)
@@ -87,21 +88,24 @@ undoubled_is (c ∷ []) t e =
     ap (λ k. k ∷ []) (equal_from_eqb c 34 p.0) ∙ ap (λ u. doubled u ++ 34 ∷ []) p.1
 undoubled_is (c ∷ d ∷ cs) t e =
     elim (choice (eqb c 34) (cond (eqb d 34) (option_map (λ u. 34 ∷ u) (undoubled cs)) None) (option_map (λ u. c ∷ u) (undoubled (d ∷ cs))) (Some t) e) [
-      inl h ↦ elim (choice (eqb d 34) (option_map (λ u. 34 ∷ u) (undoubled cs)) None (Some t) h.1) [
-          inl k ↦ (let m = mapped (λ u. 34 ∷ u) (undoubled cs) t k.1 in
+      | inl h ↦ elim (choice (eqb d 34) (option_map (λ u. 34 ∷ u) (undoubled cs)) None (Some t) h.1) [
+        | inl k ↦ (let m = mapped (λ u. 34 ∷ u) (undoubled cs) t k.1 in
             two_quotes c d cs m.0 t (equal_from_eqb c 34 h.0) (equal_from_eqb d 34 k.0) (undoubled_is cs m.0 m.1) m.2)
-        | inr k ↦ absurd (none_is_no_some t k.1) ]
-    | inr h ↦ (let m = mapped (λ u. c ∷ u) (undoubled (d ∷ cs)) t h.1 in
-        other_byte c (d ∷ cs) m.0 t h.0 (undoubled_is (d ∷ cs) m.0 m.1) m.2) ]
+        | inr k ↦ absurd (none_is_no_some t k.1)
+      ]
+      | inr h ↦ (let m = mapped (λ u. c ∷ u) (undoubled (d ∷ cs)) t h.1 in
+          other_byte c (d ∷ cs) m.0 t h.0 (undoubled_is (d ∷ cs) m.0 m.1) m.2)
+    ]
 
 quoted_again : (w t : List ℕ) → text_word w ≡ Some t → (w ≡ quoted t) × (is_text t ≡ true)
 quoted_again [] t e = absurd (cc)
 quoted_again (c ∷ cs) t e =
     elim (choice (eqb c 34) (option_and_then text_of_bytes (undoubled cs)) None (Some t) e) [
-      inl h ↦ option_and_then_some {P = (c ∷ cs ≡ quoted t) × (is_text t ≡ true)} text_of_bytes (undoubled cs) t h.1
-        (λ x read valid. let p = cond_some (is_text x) x t valid in
+      | inl h ↦ option_and_then_some {P = (c ∷ cs ≡ quoted t) × (is_text t ≡ true)} text_of_bytes (undoubled cs) t h.1
+          (λ x read valid. let p = cond_some (is_text x) x t valid in
           (ap (λ k. k ∷ cs) (equal_from_eqb c 34 h.0) ∙ ap (λ k. 34 ∷ k) (undoubled_is cs x read) ∙ ap quoted p.1, subst (λ k. is_text k ≡ true) p.1 p.0))
-    | inr h ↦ absurd (none_is_no_some t h.1) ]
+      | inr h ↦ absurd (none_is_no_some t h.1)
+    ]
 
 negative_again : (n : ℕ) (ds : List ℕ) (z : ℤ) → decimal n ≡ ds → begins_with_zero ds ≡ false → below_zero n ≡ z → n ≤ 999999999999999 → (45 ∷ ds ≡ signed_decimal z) × (unsigned_abs z ≤ 999999999999999)
 negative_again zero ds z e test whole small =
@@ -122,24 +126,28 @@ number_again (c ∷ ds) z e =
     let below = option_map below_zero (whole_number ds) in
     let above = option_map (λ n. pos n) (whole_number (c ∷ ds)) in
     elim (choice (eqb c 45) (cond (begins_with_zero ds) None below) (cond (eqb c 48 && ltb 0 (length ds)) None above) (Some z) e) [
-      inl h ↦ elim (choice (begins_with_zero ds) None below (Some z) h.1) [
-          inl k ↦ absurd (none_is_no_some z k.1)
+      | inl h ↦ elim (choice (begins_with_zero ds) None below (Some z) h.1) [
+        | inl k ↦ absurd (none_is_no_some z k.1)
         | inr k ↦ (let m = mapped below_zero (whole_number ds) z k.1 in
             let s = stands ds m.0 m.1 in
             let p = negative_again m.0 ds z (decimal_again ds m.0 s (no_zero_first (get_or ds 0 0) _ k.0)) k.0 m.2 s.small in
-            (ap (λ k. k ∷ ds) (equal_from_eqb c 45 h.0) ∙ p.0, p.1)) ]
-    | inr h ↦ elim (choice (eqb c 48 && ltb 0 (length ds)) None above (Some z) h.1) [
-          inl k ↦ absurd (none_is_no_some z k.1)
+            (ap (λ k. k ∷ ds) (equal_from_eqb c 45 h.0) ∙ p.0, p.1))
+      ]
+      | inr h ↦ elim (choice (eqb c 48 && ltb 0 (length ds)) None above (Some z) h.1) [
+        | inl k ↦ absurd (none_is_no_some z k.1)
         | inr k ↦ (let m = mapped (λ n. pos n) (whole_number (c ∷ ds)) z k.1 in
             let s = stands (c ∷ ds) m.0 m.1 in
-            (sym (decimal_again (c ∷ ds) m.0 s (zero_alone c (length ds) k.0)) ∙ ap signed_decimal m.2, subst (λ k. unsigned_abs k ≤ 999999999999999) m.2 s.small)) ] ]
+            (sym (decimal_again (c ∷ ds) m.0 s (zero_alone c (length ds) k.0)) ∙ ap signed_decimal m.2, subst (λ k. unsigned_abs k ≤ 999999999999999) m.2 s.small))
+      ]
+    ]
 
 bool_again : (w : List ℕ) (b : Bool) → bool_word w ≡ Some b → w ≡ value_text (values.Bool b)
 bool_again w b e =
     elim (choice (bytes_eq w (codes "TRUE")) (Some true) (cond (bytes_eq w (codes "FALSE")) (Some false) None) (Some b) e) [
-      inl h ↦ (bytes_eq-Decides w (codes "TRUE")).0 h.0 ∙ ap (λ k. value_text (values.Bool k)) (some_same true b h.1)
-    | inr h ↦ (let p = cond_some (bytes_eq w (codes "FALSE")) false b h.1 in
-        (bytes_eq-Decides w (codes "FALSE")).0 p.0 ∙ ap (λ k. value_text (values.Bool k)) p.1) ]
+      | inl h ↦ (bytes_eq-Decides w (codes "TRUE")).0 h.0 ∙ ap (λ k. value_text (values.Bool k)) (some_same true b h.1)
+      | inr h ↦ (let p = cond_some (bytes_eq w (codes "FALSE")) false b h.1 in
+          (bytes_eq-Decides w (codes "FALSE")).0 p.0 ∙ ap (λ k. value_text (values.Bool k)) p.1)
+    ]
 
 kind_again : (w : List ℕ) (e : ErrorKind) → kind_of_word w ≡ Some e → w ≡ error_word e
 kind_again w e h =
@@ -153,15 +161,18 @@ value_text_again w v e =
     let kinds = option_map values.Error (kind_of_word w) in
     let truths = option_map values.Bool (bool_word w) in
     elim (either (option_map values.Num (number_word w)) (option_or truths (option_or kinds texts)) v e) [
-      inl h ↦ (let m = mapped values.Num (number_word w) v h in
-        let p = number_again w m.0 m.1 in
-        (p.0 ∙ ap value_text m.2, subst HasWord m.2 p.1))
-    | inr g ↦ elim (either truths (option_or kinds texts) v g) [
-          inl h ↦ (let m = mapped values.Bool (bool_word w) v h in
+      | inl h ↦ (let m = mapped values.Num (number_word w) v h in
+          let p = number_again w m.0 m.1 in
+          (p.0 ∙ ap value_text m.2, subst HasWord m.2 p.1))
+      | inr g ↦ elim (either truths (option_or kinds texts) v g) [
+        | inl h ↦ (let m = mapped values.Bool (bool_word w) v h in
             (bool_again w m.0 m.1 ∙ ap value_text m.2, subst HasWord m.2 tt))
         | inr f ↦ elim (either kinds texts v f) [
-              inl h ↦ (let m = mapped values.Error (kind_of_word w) v h in
-                (kind_again w m.0 m.1 ∙ ap value_text m.2, subst HasWord m.2 tt))
-            | inr h ↦ (let m = mapped values.Text (text_word w) v h in
-                let p = quoted_again w m.0 m.1 in
-                (p.0 ∙ ap value_text m.2, subst HasWord m.2 p.1)) ] ] ]
+          | inl h ↦ (let m = mapped values.Error (kind_of_word w) v h in
+              (kind_again w m.0 m.1 ∙ ap value_text m.2, subst HasWord m.2 tt))
+          | inr h ↦ (let m = mapped values.Text (text_word w) v h in
+              let p = quoted_again w m.0 m.1 in
+              (p.0 ∙ ap value_text m.2, subst HasWord m.2 p.1))
+        ]
+      ]
+    ]

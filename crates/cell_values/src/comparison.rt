@@ -48,7 +48,10 @@ fn order(a: &Value, b: &Value) -> Ordering
         (Value::Num(m), Value::Num(n)) => m.cmp(n),
         (Value::Num(m), Value::Blank) => m.cmp(&0),
         (Value::Blank, Value::Num(n)) => 0.cmp(n),
-        (Value::Text(s), Value::Text(t)) => order_texts(s.as_str().as_bytes(), t.as_str().as_bytes()),
+        (Value::Text(s), Value::Text(t)) => order_texts(
+            s.as_str().as_bytes(),
+            t.as_str().as_bytes(),
+        ),
         (Value::Text(s), Value::Blank) => order_texts(s.as_str().as_bytes(), b""),
         (Value::Blank, Value::Text(t)) => order_texts(b"", t.as_str().as_bytes()),
         (Value::Bool(b), Value::Bool(c)) => b.cmp(c),

@@ -8,6 +8,8 @@ mod errors;
 mod events;
 mod names;
 mod operators;
+#[cfg(test)]
+mod tests;
 mod texts;
 mod topics;
 mod values;

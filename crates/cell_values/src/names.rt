@@ -1,15 +1,20 @@
 ghost use Rattle.std.specs.Prelude.{◌≡◌, false, Err, IfOk, IsTrue};
+ghost use Rattle.std.specs.Prelude.{nat_eq, Some, refl};
+ghost use Rattle.std.specs.Ordering.{nat_cmp};
+ghost use Rattle.std.specs.Cmp.{partial_equiv_from_equiv};
+ghost use Rattle.std.specs.Cmp.Lexicographic.{pointwise, slice_cmp, nat_list_eq_equiv, nat_list_cmp_total, texts_ties, texts_po};
 ghost use Rattle.std.specs.List.{list_all};
 ghost use Rattle.cell_values.specs.Name.{is_name, is_name_byte};
 
 use super::errors::Memory;
 use std::alloc::Global;
+use std::cmp::Ordering;
 use std::marker::Model;
 use std::sync::ArcStr;
 
 /// A name of a server, a function or a listener: 1 to 255 bytes, a letter, then letters, digits, `.` and
 /// `_`. A copy costs the same whatever its length.
-#[derive(Drop)]
+#[derive(Debug, Drop)]
 pub struct Name {
     shared: ArcStr<Global>,
 }
@@ -71,6 +76,45 @@ impl Name {
     }
 }
 
+impl PartialEq for Name {
+    ghost eq = { pointwise nat_eq };
+
+    ghost laws = { partial_equiv_from_equiv nat_list_eq_equiv };
+
+    fn eq(&self, other: &Name) -> bool {
+        self.shared == other.shared
+    }
+}
+
+impl Eq for Name {
+    ghost laws = { nat_list_eq_equiv };
+}
+
+impl PartialOrd for Name {
+    ghost partial_cmp = { λ x y. Some (slice_cmp nat_cmp x y) };
+
+    ghost laws = { texts_po };
+
+    fn partial_cmp(&self, other: &Name) -> Option<Ordering> {
+        Some(self.cmp(other))
+    }
+}
+
+/// Names are ordered by their bytes.
+impl Ord for Name {
+    ghost cmp = { slice_cmp nat_cmp };
+
+    ghost total = { nat_list_cmp_total };
+
+    ghost matches_partial_cmp = { λ x y. refl };
+
+    ghost matches_eq = { texts_ties };
+
+    fn cmp(&self, other: &Name) -> Ordering {
+        self.shared.cmp(&other.shared)
+    }
+}
+
 /// Whether bytes have the form of a name.
 fn has_form(bytes: &[u8]) -> bool
     ensures { result ≡ is_name bytes.now }
@@ -85,7 +129,5 @@ fn has_form(bytes: &[u8]) -> bool
 fn are_inner(bytes: &[u8]) -> bool
     ensures { result ≡ list_all is_name_byte bytes.now }
 {
-    bytes
-        .iter()
-        .all(|byte| byte.is_ascii_alphanumeric() || *byte == b'.' || *byte == b'_')
+    bytes.iter().all(|byte| byte.is_ascii_alphanumeric() || *byte == b'.' || *byte == b'_')
 }

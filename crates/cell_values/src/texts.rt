@@ -1,4 +1,7 @@
 ghost use Rattle.std.specs.Prelude.{◌≡◌, ◌++◌, IfOk, IfErr, IsTrue, length, position};
+ghost use Rattle.std.specs.Prelude.{nat_eq};
+ghost use Rattle.std.specs.Cmp.{partial_equiv_from_equiv};
+ghost use Rattle.std.specs.Cmp.Lexicographic.{pointwise, nat_list_eq_equiv};
 ghost use Rattle.std.specs.Char.{is_ascii_control};
 ghost use Rattle.std.specs.Str.{chars};
 ghost use Rattle.std.specs.String.{string_bytes};
@@ -9,7 +12,7 @@ use std::marker::Model;
 use std::sync::ArcStr;
 
 /// A text of at most 32,767 characters without control characters. A copy costs the same whatever its length.
-#[derive(Drop)]
+#[derive(Debug, Drop)]
 pub struct Text {
     shared: ArcStr<Global>,
 }
@@ -78,6 +81,20 @@ impl Text {
             Err(_) => Err(Memory),
         }
     }
+}
+
+impl PartialEq for Text {
+    ghost eq = { pointwise nat_eq };
+
+    ghost laws = { partial_equiv_from_equiv nat_list_eq_equiv };
+
+    fn eq(&self, other: &Text) -> bool {
+        self.shared == other.shared
+    }
+}
+
+impl Eq for Text {
+    ghost laws = { nat_list_eq_equiv };
 }
 
 impl Text {

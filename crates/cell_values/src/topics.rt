@@ -1,4 +1,6 @@
-ghost use Rattle.std.specs.Prelude.{◌≡◌, IfOk};
+ghost use Rattle.std.specs.Prelude.{◌≡◌, IfOk, nat_eq};
+ghost use Rattle.std.specs.Cmp.{partial_equiv_from_equiv};
+ghost use Rattle.std.specs.Cmp.Lexicographic.{pointwise, lists_equiv, nat_list_eq_equiv};
 
 use super::errors::Memory;
 use super::names::Name;
@@ -7,7 +9,7 @@ use std::marker::Model;
 use std::sync::ArcSlice;
 
 /// A list of texts. A copy costs the same whatever its length.
-#[derive(Drop)]
+#[derive(Debug, Drop)]
 pub struct Texts {
     shared: ArcSlice<Text>,
 }
@@ -50,8 +52,22 @@ impl Texts {
     }
 }
 
+impl PartialEq for Texts {
+    ghost eq = { pointwise (pointwise nat_eq) };
+
+    ghost laws = { partial_equiv_from_equiv (lists_equiv nat_list_eq_equiv) };
+
+    fn eq(&self, other: &Texts) -> bool {
+        self.shared == other.shared
+    }
+}
+
+impl Eq for Texts {
+    ghost laws = { lists_equiv nat_list_eq_equiv };
+}
+
 /// What a server publishes a value for: the server's name and the strings of the topic.
-#[derive(Drop)]
+#[derive(Debug, Drop, PartialEq, Eq)]
 pub struct Topic {
     pub server: Name,
     pub strings: Texts,

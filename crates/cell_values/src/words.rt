@@ -139,14 +139,14 @@ fn read_text_word(alloc: Global, word: &[u8]) -> Result<Text, ValueFault>
     match word {
         [b'"', rest @ ..] => {
             let bytes = undouble(alloc, rest)?;
-            text_of(alloc, &bytes)
+            text_from_bytes(alloc, &bytes)
         }
         _ => Err(ValueFault::Form),
     }
 }
 
 /// The text of these bytes.
-fn text_of(alloc: Global, bytes: &[u8]) -> Result<Text, ValueFault>
+fn text_from_bytes(alloc: Global, bytes: &[u8]) -> Result<Text, ValueFault>
     ensures ok { IfOk result (λ text. text_of_bytes bytes.now ≡ Some text) }
     ensures form { result ≡ Err ValueFault.Form → text_of_bytes bytes.now ≡ None }
 {

@@ -1,5 +1,5 @@
 use Rattle.cell_values.proofs.TextFacts.{no_text_of_bytes, no_text_from_control}
-use Rattle.cell_values.proofs.words.text_of.Goals as goal
+use Rattle.cell_values.proofs.words.text_from_bytes.Goals as goal
 
 pub returns-in_default-clause-form : goal.returns-in_default-clause-form
 returns-in_default-clause-form c = λ _. no_text_of_bytes c.args.bytes.now (c.in_default.ensures.cases).0
