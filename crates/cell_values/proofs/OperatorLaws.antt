@@ -1,12 +1,10 @@
 -- Laws of the operators.
-use Rattle.std.proofs.Common.{◌≡◌, ℕ, zero, suc, ◌≤◌, ◌<◌, ◌*◌, ◌/◌, ◌%◌, ◌&&◌, Bool, true, false, cond, leb, List, ◌++◌, length, Result, Ok, Some, None, unsigned_abs, nat_abs, int_le, int_div, int_rem, ◌+ℤ◌, ◌*ℤ◌, ◌⊎◌, inl, inr, refl, sym, ap, ◌∙◌, arith, ℤ, pos, negsuc, neg_ℤ, append_assoc}
-use Rattle.std.proofs.lemmas.Bool.Decides.{nat_tests}
+use Rattle.std.proofs.Common.{◌≡◌, ℕ, zero, suc, ◌≤◌, ◌<◌, ◌*◌, ◌/◌, ◌%◌, ◌&&◌, Bool, true, false, cond, List, ◌++◌, length, Ok, Some, None, unsigned_abs, nat_abs, int_le, int_div, int_rem, ◌+ℤ◌, ◌*ℤ◌, ◌⊎◌, inl, inr, refl, sym, ap, ◌∙◌, arith, ℤ, pos, negsuc, neg_ℤ, append_assoc}
 use Rattle.std.specs.Str.{chars}
 use Rattle.std.specs.Option.{option_map_or}
 use Rattle.cell_values.specs.declared.errors.ErrorKind.TheVariants as errors
 use Rattle.cell_values.specs.declared.values.Value.{Value}
 use Rattle.cell_values.specs.declared.values.Value.TheVariants as values
-use Rattle.cell_values.specs.Text.{if_short}
 use Rattle.std.specs.Ordering.{int_eq}
 use Rattle.std.proofs.Math.Nat.{mul-div_cancel, zero-div, zero-mod, mul-mod_left}
 use Rattle.std.proofs.lemmas.Int.{quot-rem, ints}
