@@ -17,6 +17,11 @@ pub false_from_not : (b : Bool) → (b ≡ true → ⊥) → b ≡ false
 false_from_not true h = absurd (h refl)
 false_from_not false h = refl
 
+-- both of two tests are true
+pub both_true : (a b : Bool) → (a && b) ≡ true → (a ≡ true) × (b ≡ true)
+both_true true b e = (refl, e)
+both_true false b e = absurd (cc)
+
 -- a byte that is no digit
 pub not_all_digits : (ds : List ℕ) (i : ℕ) → i < length ds → (IsInRange 48 57 (get_or ds i 0) → ⊥) → all_ascii_digits ds ≡ false
 not_all_digits ds i lt outside =
@@ -36,7 +41,7 @@ three false b d e = refl
 pub all_three : (a b d : Bool) → a ≡ true → b ≡ true → d ≡ true → (a && (b && d)) ≡ true
 all_three a b d e f g = grind arith
 
-leb_false : (m n : ℕ) → n < m → leb m n ≡ false
+pub leb_false : (m n : ℕ) → n < m → leb m n ≡ false
 leb_false m n h = grind (arith, nat_tests)
 
 pub leb_true : (m n : ℕ) → m ≤ n → leb m n ≡ true

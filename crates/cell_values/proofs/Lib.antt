@@ -1,3 +1,7 @@
--- Lemmas on digits, texts, words and operators.
+-- Laws of values, and lemmas on digits and texts.
+pub mod ComparisonLaws
 pub mod DigitFacts
+pub mod OperatorLaws
+pub mod Readings
 pub mod TextFacts
+pub mod WordLaws

@@ -1,6 +1,9 @@
 -- What the contracts of this crate cite.
+pub mod Coercion
+pub mod Comparison
 pub mod Digits
 pub mod Error
+pub mod Name
 pub mod Text
 pub mod TextFault
 pub mod Value

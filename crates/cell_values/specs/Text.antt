@@ -1,6 +1,6 @@
 -- Texts: which lists of bytes are texts.
-use Rattle.std.specs.Prelude.{ℕ, Bool, ◌&&◌, nat_le, is_none, List, length}
-use Rattle.std.specs.List.{position}
+use Rattle.std.specs.Prelude.{ℕ, Bool, ◌&&◌, not, nat_le, if◌then◌else◌, List, length, Option, Some, None}
+use Rattle.std.specs.List.{list_any}
 use Rattle.std.specs.Char.{is_ascii_control}
 use Rattle.std.specs.Str.{is_utf8, chars}
 
@@ -10,4 +10,8 @@ MOST_CHARACTERS = 32767
 
 -- the bytes of a text: UTF-8, at most 32,767 characters, none of them below U+0020 or U+007F
 abbrev pub is_text : List ℕ → Bool
-is_text t = is_utf8 t && (nat_le (length (chars t)) MOST_CHARACTERS && is_none (position is_ascii_control t))
+is_text t = is_utf8 t && (nat_le (length (chars t)) MOST_CHARACTERS && not (list_any is_ascii_control t))
+
+-- bytes of at most 32,767 characters
+abbrev pub if_short : List ℕ → Option (List ℕ)
+if_short t = if nat_le (length (chars t)) MOST_CHARACTERS then Some t else None

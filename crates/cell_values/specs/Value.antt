@@ -1,6 +1,7 @@
 -- Values, and what the operators make of them.
-use Rattle.std.specs.Prelude.{ℤ, pos, neg_ℤ, ◌+ℤ◌, int_le, ◌&&◌, if◌then◌else◌, Result, Ok, Err}
+use Rattle.std.specs.Prelude.{ℤ, pos, neg_ℤ, ◌+ℤ◌, ◌-ℤ◌, ◌*ℤ◌, int_le, int_div, int_rem, ◌&&◌, if◌then◌else◌, Result, Ok, Err}
 use Rattle.std.specs.Option.{ok_or}
+use Rattle.std.specs.Ordering.{int_eq}
 use Rattle.cell_values.specs.declared.errors.ErrorKind.{ErrorKind}
 use Rattle.cell_values.specs.declared.errors.ErrorKind.TheVariants as errors
 use Rattle.cell_values.specs.declared.values.Value.{Value}
@@ -32,6 +33,33 @@ on_numbers f (Ok m) (Ok n) = f m n
 -- the sum of two values
 abbrev pub add_of : Value → Value → Value
 add_of a b = on_numbers (λ m n. within_magnitude (m +ℤ n)) (number_of a) (number_of b)
+
+-- the difference of two values
+abbrev pub sub_of : Value → Value → Value
+sub_of a b = on_numbers (λ m n. within_magnitude (m -ℤ n)) (number_of a) (number_of b)
+
+-- the product of two values
+abbrev pub mul_of : Value → Value → Value
+mul_of a b = on_numbers (λ m n. within_magnitude (m *ℤ n)) (number_of a) (number_of b)
+
+-- the exact quotient of two numbers: none by 0, and none where it isn't whole
+abbrev pub quotient : ℤ → ℤ → Value
+quotient m n =
+    if int_eq n (pos 0) then values.Error errors.Div0
+    else (if int_eq (int_rem m n) (pos 0) then within_magnitude (int_div m n) else values.Error errors.Num)
+
+-- the quotient of two values
+abbrev pub div_of : Value → Value → Value
+div_of a b = on_numbers quotient (number_of a) (number_of b)
+
+-- what an operation on a number makes of a value: an error is the answer
+abbrev pub on_number : (ℤ → Value) → Result ℤ ErrorKind → Value
+on_number f (Err e) = values.Error e
+on_number f (Ok n) = f n
+
+-- a value with the opposite sign
+abbrev pub negate_of : Value → Value
+negate_of a = on_number (λ n. within_magnitude (neg_ℤ n)) (number_of a)
 
 -- what a cell shows of a formula's value: Blank becomes 0
 abbrev pub final_of : Value → Value

@@ -2,16 +2,27 @@
 #![tactic(auto)]
 
 mod coercions;
+mod comparison;
 mod digits;
 mod errors;
+mod events;
+mod names;
 mod operators;
+#[cfg(test)]
+mod tests;
 mod texts;
+mod topics;
 mod values;
 mod words;
 
-pub use coercions::to_number;
+pub use coercions::{join, to_bool, to_number, to_text};
+pub use comparison::{CompareOp, compare};
 pub use digits::read_number_word;
 pub use errors::{ErrorKind, Memory};
-pub use operators::add;
+pub use events::Event;
+pub use names::{Name, NameFault};
+pub use operators::{add, div, mul, negate, sub};
 pub use texts::{Text, TextFault};
+pub use topics::{Texts, Topic};
 pub use values::Value;
+pub use words::{ValueFault, print_value, read_error_word, read_value};

@@ -1,14 +1,18 @@
-ghost use Rattle.std.specs.Prelude.{◌≡◌, IfOk, IfErr, IsTrue, length, position};
+ghost use Rattle.std.specs.Prelude.{◌≡◌, ◌++◌, IfOk, IfErr, IsTrue, length, position};
+ghost use Rattle.std.specs.Prelude.{nat_eq};
+ghost use Rattle.std.specs.Cmp.{partial_equiv_from_equiv};
+ghost use Rattle.std.specs.Cmp.Lexicographic.{pointwise, nat_list_eq_equiv};
 ghost use Rattle.std.specs.Char.{is_ascii_control};
 ghost use Rattle.std.specs.Str.{chars};
+ghost use Rattle.std.specs.String.{string_bytes};
 
 use super::errors::Memory;
-use std::alloc::Global;
+use std::alloc::{AllocError, Global};
 use std::marker::Model;
 use std::sync::ArcStr;
 
 /// A text of at most 32,767 characters without control characters. A copy costs the same whatever its length.
-#[derive(Drop)]
+#[derive(Debug, Drop)]
 pub struct Text {
     shared: ArcStr<Global>,
 }
@@ -77,6 +81,61 @@ impl Text {
             Err(_) => Err(Memory),
         }
     }
+}
+
+impl PartialEq for Text {
+    ghost eq = { pointwise nat_eq };
+
+    ghost laws = { partial_equiv_from_equiv nat_list_eq_equiv };
+
+    fn eq(&self, other: &Text) -> bool {
+        self.shared == other.shared
+    }
+}
+
+impl Eq for Text {
+    ghost laws = { nat_list_eq_equiv };
+}
+
+impl Text {
+    ghost use Rattle.cell_values.specs.Text.{is_text, if_short};
+
+    /// The text of characters that are known to be one.
+    pub(crate) fn known(alloc: Global, s: &str) -> Result<Text, Memory>
+        requires { IsTrue (is_text s.now) }
+        ensures { IfOk result (λ text. text ≡ s.now) }
+    {
+        match ArcStr::from_str(alloc, s) {
+            Ok(shared) => Ok(Text { shared }),
+            Err(_) => Err(Memory),
+        }
+    }
+
+    /// The text followed by another; None where both together are too long.
+    pub(crate) fn followed_by(&self, alloc: Global, other: &Text) -> Result<Option<Text>, Memory>
+        ensures { IfOk result (λ both. both ≡ if_short (self.now ++ other.now)) }
+    {
+        let both = match joined(alloc, self.as_str(), other.as_str()) {
+            Ok(both) => both,
+            Err(_) => return Err(Memory),
+        };
+        if count_characters(both.as_str()) > MOST_CHARACTERS {
+            return Ok(None);
+        }
+        match ArcStr::from_string(both) {
+            Ok(shared) => Ok(Some(Text { shared })),
+            Err(_) => Err(Memory),
+        }
+    }
+}
+
+/// One text after another.
+fn joined(alloc: Global, s: &str, t: &str) -> Result<String, AllocError>
+    ensures { IfOk result (λ both. string_bytes both ≡ s.now ++ t.now) }
+{
+    let mut both = String::from_str(alloc, s)?;
+    both.push_str(t)?;
+    Ok(both)
 }
 
 /// The number of characters.

@@ -4,7 +4,7 @@ use super::errors::{ErrorKind, Memory};
 use super::texts::Text;
 
 /// The value of a cell or of a part of a formula. A number's magnitude is at most 999,999,999,999,999.
-#[derive(Drop)]
+#[derive(Debug, Drop, PartialEq, Eq)]
 pub enum Value {
     Num(i64),
     Text(Text),
@@ -30,3 +30,5 @@ impl Value {
         }
     }
 }
+
+const _: () = prove!(size_of::<Value>() <= 24);

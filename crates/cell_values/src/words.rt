@@ -139,14 +139,14 @@ fn read_text_word(alloc: Global, word: &[u8]) -> Result<Text, ValueFault>
     match word {
         [b'"', rest @ ..] => {
             let bytes = undouble(alloc, rest)?;
-            text_of(alloc, &bytes)
+            text_from_bytes(alloc, &bytes)
         }
         _ => Err(ValueFault::Form),
     }
 }
 
 /// The text of these bytes.
-fn text_of(alloc: Global, bytes: &[u8]) -> Result<Text, ValueFault>
+fn text_from_bytes(alloc: Global, bytes: &[u8]) -> Result<Text, ValueFault>
     ensures ok { IfOk result (λ text. text_of_bytes bytes.now ≡ Some text) }
     ensures form { result ≡ Err ValueFault.Form → text_of_bytes bytes.now ≡ None }
 {
@@ -156,7 +156,8 @@ fn text_of(alloc: Global, bytes: &[u8]) -> Result<Text, ValueFault>
     match Text::new(alloc, s) {
         Ok(text) => Ok(text),
         Err(TextFault::Memory) => Err(ValueFault::Memory),
-        Err(_) => Err(ValueFault::Form),
+        Err(TextFault::TooLong) => Err(ValueFault::Form),
+        Err(TextFault::Control(_)) => Err(ValueFault::Form),
     }
 }
 
