@@ -1,0 +1,3 @@
+-- Laws of the grammar.
+pub mod Numbers
+pub mod References
