@@ -1,3 +1,6 @@
 -- Laws of the grammar.
+pub mod FormulaLaws
 pub mod Numbers
+pub mod Places
 pub mod References
+pub mod TermLaws

@@ -13,7 +13,7 @@ use Rattle.cell_refs.specs.declared.references.RefText.{RefText}
 use Rattle.cell_refs.specs.Reading.{number_at, mark_at, column_at, column_number, rest_after, sheet_number_at, sheet_at, reference_in, ◌>>=◌}
 use Rattle.cell_refs.specs.Written.{capitals, reference_at}
 use Rattle.formula_parse.specs.declared.viability.Progress.{Progress}
-use Rattle.formula_parse.specs.declared.viability.Progress.TheVariants.{Formula, Term, Number, ColumnMark, Column, RowMark, Row}
+use Rattle.formula_parse.specs.declared.viability.Progress.TheVariants.{FormulaStart, TermStart, Number, ColumnMark, Column, RowMark, Row}
 use Rattle.formula_parse.specs.Progress.{column_after, row_after, progress_within}
 
 -- the progress with all the bytes of a piece of one term
@@ -22,7 +22,7 @@ within s [] = Some s
 within s (b ∷ bs) = option_and_then (λ t. within t bs) (progress_within s b)
 
 -- ---- choices
-chosen_some : {A : Type 0} (b : Bool) (o : Option A) (x : A) → cond b o None ≡ Some x → (b ≡ true) × (o ≡ Some x)
+pub chosen_some : {A : Type 0} (b : Bool) (o : Option A) (x : A) → cond b o None ≡ Some x → (b ≡ true) × (o ≡ Some x)
 chosen_some true o x h = (refl, h)
 chosen_some false o x h = cc
 
@@ -363,7 +363,7 @@ after_word (w ∷ ws) (c ∷ cs) rest h =
 
 -- ---- whole references
 -- a first letter begins a column
-first_letter_within : (b : ℕ) → is_ascii_alphabetic b ≡ true → (progress_within Term b ≡ column_after 0 b) × (progress_within ColumnMark b ≡ column_after 0 b)
+first_letter_within : (b : ℕ) → is_ascii_alphabetic b ≡ true → (progress_within TermStart b ≡ column_after 0 b) × (progress_within ColumnMark b ≡ column_after 0 b)
 unfolding progress_within
 first_letter_within b l = let p = letter_is b l in (cond-false _ _ _ p.1 ∙ cond-false _ _ _ p.0, refl)
 
@@ -374,7 +374,7 @@ first_letter (b ∷ bs) some = ⊎_elim
     (λ no. let s = span_no is_ascii_uppercase (to_ascii_uppercase b) (capitals bs) no in absurd (omega (arith, ap length s.0)))
     (cases_Bool (is_ascii_uppercase (to_ascii_uppercase b)))
 
-column_begins : (v : List ℕ) (b : ℕ) (bs : List ℕ) → v ≡ b ∷ bs → is_ascii_alphabetic b ≡ true → (within Term v ≡ within (Column 0) v) × (within ColumnMark v ≡ within (Column 0) v)
+column_begins : (v : List ℕ) (b : ℕ) (bs : List ℕ) → v ≡ b ∷ bs → is_ascii_alphabetic b ≡ true → (within TermStart v ≡ within (Column 0) v) × (within ColumnMark v ≡ within (Column 0) v)
 column_begins [] b bs e l = cc
 column_begins (c ∷ cs) b bs e l =
     let same : c ≡ b = cc in
@@ -383,12 +383,12 @@ column_begins (c ∷ cs) b bs e l =
     let q = sym (letter_within 0 c lc) in
     (ap (option_and_then (λ t. within t cs)) (p.0 ∙ q), ap (option_and_then (λ t. within t cs)) (p.1 ∙ q))
 
-dollar_within : (b : ℕ) → eqb b 36 ≡ true → progress_within Term b ≡ Some ColumnMark
+dollar_within : (b : ℕ) → eqb b 36 ≡ true → progress_within TermStart b ≡ Some ColumnMark
 unfolding progress_within
 dollar_within b m = let d : is_ascii_digit b ≡ false = grind (arith, nat_tests) in cond-false _ _ _ d ∙ cond-true _ _ _ m
 
 -- the text behind the `$` of a column, or all of it
-column_text : (p : List ℕ) → (v : List ℕ) × (capitals v ≡ (mark_at (capitals p)).1) × ((within Term p ≡ within ColumnMark v) ⊎ (v ≡ p))
+column_text : (p : List ℕ) → (v : List ℕ) × (capitals v ≡ (mark_at (capitals p)).1) × ((within TermStart p ≡ within ColumnMark v) ⊎ (v ≡ p))
 unfolding mark_at progress_within
 column_text [] = ([], refl, inr refl)
 column_text (b ∷ bs) = ⊎_elim
@@ -413,15 +413,15 @@ reference_parts u r rest h =
     let e = same_Some _ _ row.2 in
     (sheet.0, column.0, row.0, sheet.1, column.1, row.1, ap (λ x. x.0.sheet) e, ap (λ x. x.1) e)
 
-forth_from : (p : List ℕ) (column : ℕ × List ℕ) (row : ℕ) → column_at (mark_at (capitals p)).1 ≡ Some column → number_at 1048576 (mark_at column.1).1 ≡ Some (row, []) → within Term p ≡ Some (Row row)
+forth_from : (p : List ℕ) (column : ℕ × List ℕ) (row : ℕ) → column_at (mark_at (capitals p)).1 ≡ Some column → number_at 1048576 (mark_at column.1).1 ≡ Some (row, []) → within TermStart p ≡ Some (Row row)
 forth_from p column row hc hr =
     let t = column_text p in
     let f = column_forth_from t.0 column (ap column_at t.1 ∙ hc) in
     let last : within (Column column.0) f.4 ≡ Some (Row row) = row_forth_from column.0 row f.4 (ap (λ y. number_at 1048576 (mark_at y).1) f.5 ∙ hr) in
     let begins = column_begins t.0 f.0 f.1 f.2 f.3 in
-    ⊎_elim (λ marked. marked ∙ begins.1 ∙ f.6 ∙ last) (λ same. ap (within Term) (sym same) ∙ begins.0 ∙ f.6 ∙ last) t.2
+    ⊎_elim (λ marked. marked ∙ begins.1 ∙ f.6 ∙ last) (λ same. ap (within TermStart) (sym same) ∙ begins.0 ∙ f.6 ∙ last) t.2
 
-pub reference_forth : (p : List ℕ) (r : RefText) → reference_in (capitals p) ≡ Some (r, []) → r.sheet ≡ None → (m : ℕ) × (within Term p ≡ Some (Row m))
+pub reference_forth : (p : List ℕ) (r : RefText) → reference_in (capitals p) ≡ Some (r, []) → r.sheet ≡ None → (m : ℕ) × (within TermStart p ≡ Some (Row m))
 reference_forth p r h none =
     let q = reference_parts (capitals p) r [] h in
     let text : q.0.1 ≡ capitals p = no_sheet (rest_after (codes "SHEET") (capitals p)) (capitals p) q.0 (sheet_is (capitals p) ∙ q.3) (q.6 ∙ none) in
@@ -484,7 +484,7 @@ reference_from u column row none hc hr =
     let sheet : sheet_at u ≡ Some (None, u) = sym (sheet_is u) ∙ ap (λ o. option_map_or sheet_number_at o (Some (None, u))) none in
     (record { sheet = None; row = row; col = column.0; row_fixed = (mark_at column.1).0; col_fixed = (mark_at u).0 }, rw (sheet, hc, hr) refl, refl)
 
-pub reference_back : (p : List ℕ) (row : ℕ) → within Term p ≡ Some (Row row) → (r : RefText) × (reference_in (capitals p) ≡ Some (r, [])) × (r.sheet ≡ None)
+pub reference_back : (p : List ℕ) (row : ℕ) → within TermStart p ≡ Some (Row row) → (r : RefText) × (reference_in (capitals p) ≡ Some (r, [])) × (r.sheet ≡ None)
 unfolding progress_within
 reference_back [] row h = cc
 reference_back (b ∷ bs) row h = ⊎_elim
@@ -498,7 +498,7 @@ reference_back (b ∷ bs) row h = ⊎_elim
         let mark = mark_yes b bs m in
         reference_from (capitals (b ∷ bs)) q.0 row (dollar_no_sheet b bs m) (ap (λ y. column_at y.1) mark ∙ q.1) q.2)
       (λ no.
-        let e : progress_within Term b ≡ column_after 0 b = cond-false _ _ _ other ∙ cond-false _ _ _ no in
+        let e : progress_within TermStart b ≡ column_after 0 b = cond-false _ _ _ other ∙ cond-false _ _ _ no in
         option_and_then_some (λ t. within t bs) (column_after 0 b) (Row row) (ap (option_and_then (λ t. within t bs)) (sym e) ∙ h) (λ t step rest.
           let q = column_back_at b bs t row step rest in
           let mark = mark_no b bs no in

@@ -3,7 +3,7 @@ use Rattle.std.specs.Prelude.{ℕ, ◌+◌, ◌-◌, ◌*◌, Bool, true, false,
 use Rattle.std.specs.Char.{is_ascii_digit, is_ascii_alphabetic, to_ascii_uppercase}
 use Rattle.std.specs.Option.{option_map_or}
 use Rattle.formula_parse.specs.declared.viability.Progress.{Progress}
-use Rattle.formula_parse.specs.declared.viability.Progress.TheVariants.{Formula, Term, Number, ColumnMark, Column, RowMark, Row}
+use Rattle.formula_parse.specs.declared.viability.Progress.TheVariants.{FormulaStart, TermStart, Number, ColumnMark, Column, RowMark, Row}
 
 -- a further letter of a column inside the grid
 abbrev pub column_after : ℕ → ℕ → Option Progress
@@ -19,8 +19,8 @@ row_after n b =
 
 -- the progress with one more byte of `=` or of the same term
 unfoldable pub progress_within : Progress → ℕ → Option Progress
-progress_within Formula b = if b == 61 then Some Term else None
-progress_within Term b = if is_ascii_digit b then Some Number else (if b == 36 then Some ColumnMark else column_after 0 b)
+progress_within FormulaStart b = if b == 61 then Some TermStart else None
+progress_within TermStart b = if is_ascii_digit b then Some Number else (if b == 36 then Some ColumnMark else column_after 0 b)
 progress_within Number b = if is_ascii_digit b then Some Number else None
 progress_within ColumnMark b = column_after 0 b
 progress_within (Column n) b = if b == 36 then Some RowMark else (if is_ascii_digit b then row_after 0 b else column_after n b)
@@ -35,7 +35,7 @@ is_whole progress = false
 
 -- the progress with one more byte, where some formula goes on with it
 abbrev pub progress_after : Progress → ℕ → Option Progress
-progress_after progress b = if b == 43 && is_whole progress then Some Term else progress_within progress b
+progress_after progress b = if b == 43 && is_whole progress then Some TermStart else progress_within progress b
 
 -- how many bytes of a text some formula goes on with
 abbrev pub viable_len : Progress → List ℕ → ℕ

@@ -3,6 +3,7 @@
 
 mod faults;
 mod parser;
+mod sums;
 mod terms;
 mod trees;
 mod viability;

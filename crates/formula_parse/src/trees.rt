@@ -27,6 +27,12 @@ impl Model for Tree {
 }
 
 impl Tree {
+    pub(crate) fn of(terms: Vec<Term>) -> Tree
+        ensures { result ≡ terms.items }
+    {
+        Tree { terms }
+    }
+
     /// The terms, from left to right.
     pub fn terms(&self) -> &[Term]
         ensures { result.now ≡ self.now }

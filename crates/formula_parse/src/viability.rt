@@ -5,9 +5,9 @@ ghost use Rattle.formula_parse.specs.Progress.{progress_after, progress_within, 
 #[derive(Clone, Copy, Debug, PartialEq, Eq)]
 pub(crate) enum Progress {
     /// Nothing: a formula begins.
-    Formula,
+    FormulaStart,
     /// A term begins.
-    Term,
+    TermStart,
     /// Digits of a number.
     Number,
     /// The `$` of a column.
@@ -26,7 +26,7 @@ impl Progress {
         ensures { result ≡ progress_after self byte }
     {
         if byte == b'+' && self.is_whole() {
-            Some(Progress::Term)
+            Some(Progress::TermStart)
         } else {
             self.within(byte)
         }
@@ -45,10 +45,10 @@ impl Progress {
         ensures { result ≡ progress_within self byte }
     {
         match self {
-            Progress::Formula => (byte == b'=').then_some(Progress::Term),
-            Progress::Term if byte.is_ascii_digit() => Some(Progress::Number),
-            Progress::Term if byte == b'$' => Some(Progress::ColumnMark),
-            Progress::Term | Progress::ColumnMark => after_letter(0, byte),
+            Progress::FormulaStart => (byte == b'=').then_some(Progress::TermStart),
+            Progress::TermStart if byte.is_ascii_digit() => Some(Progress::Number),
+            Progress::TermStart if byte == b'$' => Some(Progress::ColumnMark),
+            Progress::TermStart | Progress::ColumnMark => after_letter(0, byte),
             Progress::Number => byte.is_ascii_digit().then_some(Progress::Number),
             Progress::Column(_) if byte == b'$' => Some(Progress::RowMark),
             Progress::Column(_) if byte.is_ascii_digit() => after_digit(0, byte),
