@@ -3,4 +3,5 @@ pub mod FormulaLaws
 pub mod Numbers
 pub mod Places
 pub mod References
+pub mod SumLaws
 pub mod TermLaws

@@ -167,7 +167,7 @@ term_of_from p t h = ⊎_elim
     (cases_Bool (is_numeral p))
 
 -- ---- no `+` stands in a term
-no_plus_within : (s : Progress) → progress_within s 43 ≡ None
+pub no_plus_within : (s : Progress) → progress_within s 43 ≡ None
 unfolding progress_within
 no_plus_within FormulaStart = refl
 no_plus_within TermStart = refl
