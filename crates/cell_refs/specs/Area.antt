@@ -1,5 +1,5 @@
 -- Areas: the cells between two corners.
-use Rattle.std.specs.Prelude.{◌≡◌, ℕ, ◌+◌, ◌-◌, ◌*◌, ◌≤◌, List, map, flat_map, min, max, unwrap_or}
+use Rattle.std.specs.Prelude.{◌≡◌, ◌==◌, ◌&&◌, nat_le, Bool, ℕ, ◌+◌, ◌-◌, ◌*◌, ◌≤◌, List, ◌++◌, map, flat_map, min, max, unwrap_or}
 use Rattle.std.specs.List.{range_with_len}
 use Rattle.cell_refs.specs.declared.areas.Area.{Area}
 use Rattle.cell_refs.specs.declared.cells.Cell.{Cell}
@@ -21,6 +21,14 @@ pub record IsInside (area : Area) (cell : Cell) : Type 0 where
   pub after : area.left ≤ cell.col
   pub before : cell.col ≤ area.right
 
+-- the same as a test
+abbrev pub area_has : Area → Cell → Bool
+area_has area cell = (cell.sheet == area.sheet) && (nat_le area.top cell.row && (nat_le cell.row area.bottom && (nat_le area.left cell.col && nat_le cell.col area.right)))
+
+-- the number of an area's cells
+abbrev pub size_of : Area → ℕ
+size_of area = (area.bottom + 1 - area.top) * (area.right + 1 - area.left)
+
 -- the area between two references, whichever corners they are; the second one's sheet isn't used
 abbrev pub area_of : RefText → RefText → ℕ → Area
 area_of a b home = record { sheet = unwrap_or a.sheet home; top = min a.row b.row; left = min a.col b.col; bottom = max a.row b.row; right = max a.col b.col }
@@ -36,3 +44,7 @@ row_cells sheet left right row = map (λ col. record { sheet = sheet; row = row;
 -- the cells of an area, by rows and then by columns
 unfoldable pub cells_of : Area → List Cell
 cells_of area = flat_map (row_cells area.sheet area.left area.right) (numbers area.top area.bottom)
+
+-- the cells from a place in an area on: the rest of its row, and the rows below
+abbrev pub cells_from : ℕ → ℕ → ℕ → ℕ → ℕ → ℕ → List Cell
+cells_from sheet left right bottom row col = row_cells sheet col right row ++ flat_map (row_cells sheet left right) (numbers (row + 1) bottom)

@@ -1,16 +1,22 @@
 //! Cells of a workbook's grid, areas of them, and the written references that name them.
 #![tactic(auto)]
 
-mod areas;
+pub mod areas;
 mod cells;
+mod handles;
+mod laws;
 mod memory;
 mod reading;
 mod references;
+mod steps;
 mod writing;
 
 pub use areas::Area;
 pub use cells::Cell;
+pub use handles::Handle;
+pub use laws::{an_area_lists_its_cells, reading_gives_what_stands, written_text_reads_back};
 pub use memory::Memory;
 pub use reading::read_ref;
 pub use references::RefText;
+pub use steps::Steps;
 pub use writing::{write_cell, write_ref};

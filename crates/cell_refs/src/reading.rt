@@ -1,9 +1,9 @@
-ghost use Rattle.std.specs.Prelude.{◌≡◌, ℕ, ◌≤◌, ◌<◌, ◌-◌, ◌^◌, length, option_map, IfSome, IfNone, SomeIff, IsTrue, codes, take_while};
+ghost use Rattle.std.specs.Prelude.{◌≡◌, ℕ, ◌≤◌, ◌<◌, ◌-◌, ◌^◌, length, option_map, IfSome, IfNone, SomeIff, IsTrue, codes, take_while, slice_index};
 ghost use Rattle.std.specs.Str.{all_ascii_digits};
 ghost use Rattle.std.specs.Str.Parse.{digits_value};
 ghost use Rattle.std.specs.Char.{is_ascii_digit, is_ascii_alphabetic, to_ascii_uppercase};
 ghost use Rattle.cell_refs.specs.declared.references.RefText.{RefText};
-ghost use Rattle.cell_refs.specs.Reading.{number_at, mark_at, column_at, rest_after, sheet_number_at, sheet_at, reference_in};
+ghost use Rattle.cell_refs.specs.Reading.{number_at, mark_at, column_at, column_number, rest_after, sheet_number_at, sheet_at, reference_in};
 ghost use Rattle.cell_refs.specs.Written.{capitals, reference_at, StandsAt};
 
 use super::cells::{COLUMNS, ROWS, SHEETS};
@@ -72,9 +72,8 @@ fn after_sheet(text: &[u8]) -> Option<&[u8]>
     ensures value { option_map (λ x. capitals x.now) result ≡ rest_after (codes "SHEET") (capitals text.now) }
     ensures shorter { IfSome result (λ x. length x.now ≤ length text.now) }
 {
-    match text {
-        [s, h, e, again, t, rest @ ..] if [*s, *h, *e, *again, *t].eq_ignore_ascii_case(b"Sheet") =>
-            Some(rest),
+    match text.split_at_checked(5) {
+        Some((word, rest)) if word.eq_ignore_ascii_case(b"Sheet") => Some(rest),
         _ => None,
     }
 }
@@ -92,22 +91,29 @@ fn mark_of(text: &[u8]) -> (bool, &[u8])
 }
 
 /// The column that the letters at the front name.
-#[tactic(auto, unfolding(crate::specs::Reading::column_at))]
 fn column_of(text: &[u8]) -> Option<(u16, &[u8])>
     ensures value { option_map (λ x. (x.0, capitals x.1.now)) result ≡ column_at (capitals text.now) }
     ensures shorter { IfSome result (λ x. length x.1.now ≤ length text.now) }
 {
     let (letters, rest) = text.split_at(letters_len(text));
-    let column = match letters {
-        [a] => letter_number(*a),
-        [a, b] => 26 * letter_number(*a) + letter_number(*b),
-        [a, b, c] => 676 * letter_number(*a) + 26 * letter_number(*b) + letter_number(*c),
-        _ => return None,
-    };
+    let column = column_value(letters)?;
     if column <= u32::from(COLUMNS) {
         Some((column as u16, rest))
     } else {
         None
+    }
+}
+
+/// The column that one to three letters name.
+#[tactic(auto, unfolding(crate::specs::Reading::column_number))]
+fn column_value(letters: &[u8]) -> Option<u32>
+    ensures { SomeIff result ((0 < length letters.now) × (length letters.now ≤ 3)) (column_number (capitals letters.now)) }
+{
+    match letters {
+        [a] => Some(letter_number(*a)),
+        [a, b] => Some(26 * letter_number(*a) + letter_number(*b)),
+        [a, b, c] => Some(676 * letter_number(*a) + 26 * letter_number(*b) + letter_number(*c)),
+        _ => None,
     }
 }
 
@@ -129,16 +135,12 @@ fn letter_number(letter: u8) -> u32
 }
 
 /// The number at the front, from 1 to the limit, its digits taken to their end.
-#[tactic(auto, unfolding(crate::specs::Reading::number_at))]
 pub(crate) fn number_of(text: &[u8], limit: u64) -> Option<(u64, &[u8])>
     ensures value { option_map (λ x. (x.0, capitals x.1.now)) result ≡ number_at limit (capitals text.now) }
     ensures shorter { IfSome result (λ x. length x.1.now ≤ length text.now) }
     ensures within { IfSome result (λ x. x.0 ≤ limit) }
 {
     let (digits, rest) = text.split_at(digits_len(text));
-    if matches!(digits, [] | [b'0', ..]) {
-        return None;
-    }
     let number = value_of(digits)?;
     if number <= limit {
         Some((number, rest))
@@ -154,12 +156,23 @@ fn digits_len(text: &[u8]) -> usize
     text.iter().take_while(|byte| byte.is_ascii_digit()).count()
 }
 
-/// The number that digits stand for; None exactly where a `u64` doesn't hold it.
+/// The number that digits without a leading zero stand for, where a `u64` holds it.
 fn value_of(digits: &[u8]) -> Option<u64>
+    requires { IsTrue (all_ascii_digits digits.now) }
+    ensures { SomeIff result ((48 < slice_index digits.now 0) × (digits_value 10 digits.now < 2 ^ 64)) (digits_value 10 digits.now) }
+{
+    match digits {
+        [] | [b'0', ..] => None,
+        _ => parse_digits(digits),
+    }
+}
+
+/// The number that digits stand for, where a `u64` holds it.
+fn parse_digits(digits: &[u8]) -> Option<u64>
     requires digits { IsTrue (all_ascii_digits digits.now) }
     requires some { 0 < length digits.now }
     ensures { SomeIff result (digits_value 10 digits.now < 2 ^ 64) (digits_value 10 digits.now) }
 {
-    let digits = std::str::from_utf8(digits).ok()?;
-    digits.parse().ok()
+    let text = std::str::from_utf8(digits).ok()?;
+    text.parse().ok()
 }
