@@ -1,5 +1,5 @@
 -- What a reader of sums has read, piece by piece.
-use Rattle.std.proofs.Common.{◌≡◌, ℕ, ◌+◌, ◌-◌, ◌<◌, ◌≤◌, zero, suc, Bool, true, false, not, cond, ◌&&◌, eqb, List, [], ◌∷◌, ◌++◌, length, take, drop, get_or, All, Option, Some, None, Result, Ok, Err, option_and_then, option_map, is_some, refl, sym, ap, ◌∙◌, subst, arith, ⊎_elim, ◌⊎◌, inl, inr, append_assoc, append-nil, add-one, zero-add, drop-cons, length-append, length-drop, drop_of_length-le}
+use Rattle.std.proofs.Common.{◌≡◌, ℕ, ◌+◌, ◌-◌, ◌<◌, ◌≤◌, zero, suc, Bool, true, false, not, cond, ◌&&◌, eqb, List, [], ◌∷◌, ◌++◌, length, take, drop, get_or, All, Option, Some, None, Result, Ok, Err, option_and_then, option_map, is_some, refl, sym, ap, ◌∙◌, subst, arith, ⊎_elim, ◌⊎◌, inl, inr, append_assoc, append-nil, add-one, drop-cons, length-append, length-drop, drop_of_length-le}
 use Rattle.std.specs.List.{list_all, slice_split, onto_first, join_with_byte}
 use Rattle.std.specs.Option.{option_map_or}
 use Rattle.std.proofs.lemmas.Bool.{and_parts, and_from, and_left, and_right, not_from_false, not-true, cases_Bool, cond-true, cond-false}
@@ -112,17 +112,17 @@ term_then p rest t free h =
 pub record HasRead (sum : List ℕ) (n place : ℕ) (is_over : Bool) (terms : List Term) : Type 0 where
   pub turns : n ≤ length (pieces_of sum)
   pub reads : terms_behind sum is_over terms (terms_of (drop n (pieces_of sum))) ≡ sum_read sum
-  pub lives : n < length (pieces_of sum) → viable_len TermStart sum ≡ place + viable_len TermStart (join_with_byte 43 (drop n (pieces_of sum)))
-  pub left : n < length (pieces_of sum) → place + length (join_with_byte 43 (drop n (pieces_of sum))) ≡ length sum
-  pub bound : place ≤ length sum + 1
+  pub lives : n < length (pieces_of sum) → viable_len TermStart sum + 1 ≡ place + viable_len TermStart (join_with_byte 43 (drop n (pieces_of sum)))
+  pub left : n < length (pieces_of sum) → place + length (join_with_byte 43 (drop n (pieces_of sum))) ≡ length sum + 1
+  pub bound : place ≤ length sum + 2
 
-pub read_none : (sum : List ℕ) → HasRead sum 0 0 false []
+pub read_none : (sum : List ℕ) → HasRead sum 0 1 false []
 unfolding sum_read
 read_none sum = record {
   turns = omega arith;
   reads = refl;
-  lives = λ _. ap (viable_len TermStart) (sym (join_with_byte-slice_split 43 sum)) ∙ sym (zero-add _);
-  left = λ _. zero-add _ ∙ ap length (join_with_byte-slice_split 43 sum);
+  lives = λ _. let e = ap (viable_len TermStart) (join_with_byte-slice_split 43 sum) in omega arith;
+  left = λ _. let e = ap length (join_with_byte-slice_split 43 sum) in omega arith;
   bound = omega arith;
 }
 
@@ -175,7 +175,7 @@ behind_large sum is_over front t None w = refl
 behind_large sum is_over front t (Some us) w =
     sym (cond-false _ _ _ (and_right (not is_over) (is_within_limit t && list_all is_within_limit us) (and_left (is_within_limit t) _ w)))
 
-by_rest : (sum p : List ℕ) (place : ℕ) (rest : List (List ℕ)) (t : Term) → is_free p ≡ true → IsTerm p t → place + length (p ++ behind rest) ≡ length sum → viable_len TermStart sum ≡ place + viable_len TermStart (p ++ behind rest) → (0 < length rest → viable_len TermStart sum ≡ place + (length p + 1) + viable_len TermStart (join_with_byte 43 rest)) × (0 < length rest → place + (length p + 1) + length (join_with_byte 43 rest) ≡ length sum)
+by_rest : (sum p : List ℕ) (place : ℕ) (rest : List (List ℕ)) (t : Term) → is_free p ≡ true → IsTerm p t → place + length (p ++ behind rest) ≡ length sum + 1 → viable_len TermStart sum + 1 ≡ place + viable_len TermStart (p ++ behind rest) → (0 < length rest → viable_len TermStart sum + 1 ≡ place + (length p + 1) + viable_len TermStart (join_with_byte 43 rest)) × (0 < length rest → place + (length p + 1) + length (join_with_byte 43 rest) ≡ length sum + 1)
 by_rest sum p place [] t free term left lives = (λ some. absurd (omega arith), λ some. absurd (omega arith))
 by_rest sum p place (q ∷ qs) t free term left lives =
     let more = term_then p (join_with_byte 43 (q ∷ qs)) t free term in
@@ -188,8 +188,8 @@ reads_on sum p n place is_over after_over terms after t h low pieces is same =
     let free = free_drop n (pieces_of sum) p (drop (n + 1) (pieces_of sum)) (pieces_free sum) pieces in
     let term = term_of_from p t is in
     let joined = ap (join_with_byte 43) pieces ∙ join_is p (drop (n + 1) (pieces_of sum)) in
-    let left : place + length (p ++ behind (drop (n + 1) (pieces_of sum))) ≡ length sum = ap (λ x. place + length x) (sym joined) ∙ h.left low in
-    let lives : viable_len TermStart sum ≡ place + viable_len TermStart (p ++ behind (drop (n + 1) (pieces_of sum))) = h.lives low ∙ ap (λ x. place + viable_len TermStart x) joined in
+    let left : place + length (p ++ behind (drop (n + 1) (pieces_of sum))) ≡ length sum + 1 = ap (λ x. place + length x) (sym joined) ∙ h.left low in
+    let lives : viable_len TermStart sum + 1 ≡ place + viable_len TermStart (p ++ behind (drop (n + 1) (pieces_of sum))) = h.lives low ∙ ap (λ x. place + viable_len TermStart x) joined in
     let len : length (drop (n + 1) (pieces_of sum)) ≡ length (pieces_of sum) - (n + 1) = length-drop (n + 1) (pieces_of sum) in
     let rest = by_rest sum p place (drop (n + 1) (pieces_of sum)) t free term left lives in
     record {
@@ -207,16 +207,16 @@ fault_is sum p n place is_over terms h low pieces fault =
     let free = free_drop n (pieces_of sum) p (drop (n + 1) (pieces_of sum)) (pieces_free sum) pieces in
     let joined = ap (join_with_byte 43) pieces ∙ join_is p (drop (n + 1) (pieces_of sum)) in
     let here = no_term p (behind (drop (n + 1) (pieces_of sum))) free none (behind_follows (drop (n + 1) (pieces_of sum))) in
-    let lives : viable_len TermStart sum ≡ place + viable_len TermStart p = h.lives low ∙ ap (λ x. place + x) (ap (viable_len TermStart) joined ∙ here) in
+    let lives : viable_len TermStart sum + 1 ≡ place + viable_len TermStart p = h.lives low ∙ ap (λ x. place + x) (ap (viable_len TermStart) joined ∙ here) in
     ap (λ m. Err (faults.Syntax m)) (sym lives)
     ∙ ap (λ x. terms_behind sum is_over terms (terms_onto x (terms_of (drop (n + 1) (pieces_of sum))))) (sym none)
     ∙ ap (λ x. terms_behind sum is_over terms (terms_of x)) (sym pieces) ∙ h.reads
 
 -- where the piece of a turn stands in the sum
-pub piece_fits : (sum p : List ℕ) (n place : ℕ) (is_over : Bool) (terms : List Term) → HasRead sum n place is_over terms → n < length (pieces_of sum) → drop n (pieces_of sum) ≡ p ∷ drop (n + 1) (pieces_of sum) → place + length p ≤ length sum
+pub piece_fits : (sum p : List ℕ) (n place : ℕ) (is_over : Bool) (terms : List Term) → HasRead sum n place is_over terms → n < length (pieces_of sum) → drop n (pieces_of sum) ≡ p ∷ drop (n + 1) (pieces_of sum) → place + length p ≤ length sum + 1
 piece_fits sum p n place is_over terms h low pieces =
     let joined = ap (join_with_byte 43) pieces ∙ join_is p (drop (n + 1) (pieces_of sum)) in
-    let left : place + length (p ++ behind (drop (n + 1) (pieces_of sum))) ≡ length sum = ap (λ x. place + length x) (sym joined) ∙ h.left low in
+    let left : place + length (p ++ behind (drop (n + 1) (pieces_of sum))) ≡ length sum + 1 = ap (λ x. place + length x) (sym joined) ∙ h.left low in
     omega (arith, length-append p (behind (drop (n + 1) (pieces_of sum))))
 
 pub viable_short : (s : Progress) (p : List ℕ) → viable_len s p ≤ length p

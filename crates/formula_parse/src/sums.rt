@@ -7,13 +7,13 @@ use super::trees::Tree;
 use super::viability::{Progress, viable_len_from};
 use std::alloc::Global;
 
-/// The tree of a sum; the place of a fault is counted from the sum's start.
+/// The tree of the sum behind `=`; the place of a fault counts the `=` too.
 pub(crate) fn read_sum(alloc: Global, sum: &str) -> Result<Tree, ParseFault>
     ensures { (result ≡ Err ParseFault.Memory) ⊎ (result ≡ sum_read sum.now) }
 {
     let mut terms = Vec::new(alloc);
     let mut is_over = false;
-    let mut place = 0;
+    let mut place = 1;
     for piece in sum.split('+') {
         match read_term(piece) {
             Ok(term) => terms.push(term)?,
