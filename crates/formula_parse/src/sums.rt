@@ -28,5 +28,5 @@ pub(crate) fn read_sum(alloc: Global, sum: &str) -> Result<Tree, ParseFault>
     if is_over {
         return Err(ParseFault::NumberTooLarge);
     }
-    Ok(Tree::of(terms))
+    Ok(Tree::of(terms)?)
 }

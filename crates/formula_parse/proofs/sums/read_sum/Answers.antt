@@ -82,4 +82,4 @@ returns c =
     let read = c.loop-piece.invariant.2 in
     let road = YieldsList-at c.into_iter-piece-iterator.ensures.into_iter_gives (YieldsList-from_str_split 43 c.args.sum.now (lit< tt) c.split-piece-items.ensures.text c.split-piece-items.ensures.has_more c.split-piece-items.ensures.pattern) in
     let all = YieldsList-end road c.loop-piece.yielded _ c.loop-piece.yielded_by _ _ c.in-None.is c.next.ensures.steps in
-    inr (ap (λ x. Ok x) c.of.ensures ∙ read_all c.args.sum.now (length c.loop-piece.yielded) c.loop-piece.place c.loop-piece.terms.items (subst (λ o. HasRead c.args.sum.now (length c.loop-piece.yielded) c.loop-piece.place o c.loop-piece.terms.items) c.if-is_over.false read) all.1)
+    inr (ap (λ x. Ok x) c.in_ok-of.ensures ∙ read_all c.args.sum.now (length c.loop-piece.yielded) c.loop-piece.place c.loop-piece.terms.items (subst (λ o. HasRead c.args.sum.now (length c.loop-piece.yielded) c.loop-piece.place o c.loop-piece.terms.items) c.if-is_over.false read) all.1)
