@@ -1,6 +1,7 @@
 -- What parsing a text answers, in the words of the grammar.
 use Rattle.std.proofs.Common.{◌≡◌, ℕ, suc, ◌+◌, ◌<◌, ◌≤◌, Bool, true, false, not, cond, ◌&&◌, ltb, List, [], ◌∷◌, ◌++◌, length, All, Any, Option, Some, None, Result, Ok, Err, IfOk, option_and_then, refl, sym, ap, ◌∙◌, subst, arith, ⊎_elim, ◌⊎◌, inl, inr, ◌≢◌, eqb, eqb-true, ltb-true, ltb-false, lt-ltb, le-ltb, ◌↔◌}
 use Rattle.std.specs.List.{list_all}
+use Rattle.std.specs.Result.{result_ok}
 use Rattle.std.specs.Str.{chars}
 use Rattle.std.proofs.lemmas.Bool.{cases_Bool, cond-true, cond-false, and_parts, and_from, and_right, and_cases}
 use Rattle.std.specs.Option.{option_map_or}
@@ -191,3 +192,22 @@ syntax_clause text r h place e = ⊎_elim (λ memory. let f = sym memory ∙ e i
 
 pub number_clause : (text : List ℕ) (r : Result (List Term) ParseFault) → Gives text r → r ≡ Err faults.NumberTooLarge → IsNumberFault text
 number_clause text r h e = ⊎_elim (λ memory. let f = sym memory ∙ e in cc) (λ read. number_law text (sym read ∙ e)) h
+
+-- ---- laws
+judged_formula : (text : List ℕ) (o : Option (List Term)) → result_ok (judged text o) ≡ option_and_then within_limits o
+judged_formula text None = refl
+judged_formula text (Some ts) = by_test (list_all is_within_limit ts)
+  where
+    by_test : (b : Bool) → result_ok (cond b (Ok ts) (Err faults.NumberTooLarge)) ≡ cond b (Some ts) None
+    by_test true = refl
+    by_test false = refl
+
+pub parsed_formula : (text : List ℕ) → result_ok (parsed text) ≡ formula_of text
+unfolding formula_of
+parsed_formula text = ⊎_elim
+    (λ long. ap result_ok (parsed_long text long) ∙ sym (cond-true _ _ _ long))
+    (λ short. ap result_ok (parsed_short text short) ∙ judged_formula text (unlimited_formula_of text) ∙ sym (cond-false _ _ _ short))
+    (cases_Bool (is_too_long text))
+
+pub syntax_place_law : (text : List ℕ) → IsSyntaxPlace text (syntax_place text)
+syntax_place_law text = subst (IsSyntaxPlace text) (sym (syntax_place_is text)) (place_is text)

@@ -4,6 +4,7 @@ use Rattle.std.specs.List.{list_all, slice_split, onto_first, join_with_byte}
 use Rattle.std.specs.Option.{option_map_or}
 use Rattle.std.proofs.lemmas.Bool.{and_parts, and_from, and_left, and_right, not_from_false, not-true, cases_Bool, cond-true, cond-false}
 use Rattle.std.proofs.lemmas.Option.{option_and_then_some, same_Some}
+use Rattle.std.proofs.lemmas.List.Elements.{All-nil, All-push}
 use Rattle.std.proofs.lemmas.List.Splits.{join_with_byte-slice_split, length-slice_split, slice_split-cons_yes, slice_split-cons_no}
 use Rattle.formula_parse.specs.declared.trees.Term.{Term}
 use Rattle.formula_parse.specs.declared.faults.ParseFault.{ParseFault}
@@ -11,9 +12,11 @@ use Rattle.formula_parse.specs.declared.faults.ParseFault.TheVariants as faults
 use Rattle.formula_parse.specs.declared.terms.TermFault.TheVariants.{NoTerm, TooLarge}
 use Rattle.formula_parse.specs.declared.viability.Progress.{Progress}
 use Rattle.formula_parse.specs.declared.viability.Progress.TheVariants.{FormulaStart, TermStart, Number, ColumnMark, Column, RowMark, Row}
-use Rattle.formula_parse.specs.Grammar.{IsTerm, is_within_limit, term_of, terms_of, pieces_of}
+use Rattle.formula_parse.specs.Grammar.{IsTerm, IsSum, is_within_limit, term_of, terms_of, pieces_of}
 use Rattle.formula_parse.specs.Progress.{progress_after, progress_within, is_whole, viable_len}
 use Rattle.formula_parse.specs.Reading.{term_within, terms_behind, sum_read}
+use Rattle.formula_parse.specs.Tree.{IsKept, IsTree}
+use Rattle.formula_parse.proofs.FormulaLaws.{sum_from_pieces}
 use Rattle.formula_parse.proofs.References.{within}
 use Rattle.formula_parse.proofs.TermLaws.{term_runs, term_from_run, term_of_is, term_of_from, no_plus_within}
 
@@ -115,6 +118,7 @@ pub record HasRead (sum : List ℕ) (n place : ℕ) (is_over : Bool) (terms : Li
   pub lives : n < length (pieces_of sum) → viable_len TermStart sum + 1 ≡ place + viable_len TermStart (join_with_byte 43 (drop n (pieces_of sum)))
   pub left : n < length (pieces_of sum) → place + length (join_with_byte 43 (drop n (pieces_of sum))) ≡ length sum + 1
   pub bound : place ≤ length sum + 2
+  pub kept : All IsKept terms
 
 pub read_none : (sum : List ℕ) → HasRead sum 0 1 false []
 unfolding sum_read
@@ -124,6 +128,7 @@ read_none sum = record {
   lives = λ _. let e = ap (viable_len TermStart) (join_with_byte-slice_split 43 sum) in omega arith;
   left = λ _. let e = ap length (join_with_byte-slice_split 43 sum) in omega arith;
   bound = omega arith;
+  kept = All-nil IsKept;
 }
 
 -- the piece of a turn, and the pieces behind it
@@ -183,8 +188,8 @@ by_rest sum p place (q ∷ qs) t free term left lives =
     (λ _. omega arith, λ _. omega arith)
 
 -- a further piece that is a term
-reads_on : (sum p : List ℕ) (n place : ℕ) (is_over after_over : Bool) (terms after : List Term) (t : Term) → HasRead sum n place is_over terms → n < length (pieces_of sum) → drop n (pieces_of sum) ≡ p ∷ drop (n + 1) (pieces_of sum) → term_of p ≡ Some t → terms_behind sum after_over after (terms_of (drop (n + 1) (pieces_of sum))) ≡ terms_behind sum is_over terms (terms_of (p ∷ drop (n + 1) (pieces_of sum))) → HasRead sum (n + 1) (place + (length p + 1)) after_over after
-reads_on sum p n place is_over after_over terms after t h low pieces is same =
+reads_on : (sum p : List ℕ) (n place : ℕ) (is_over after_over : Bool) (terms after : List Term) (t : Term) → HasRead sum n place is_over terms → n < length (pieces_of sum) → drop n (pieces_of sum) ≡ p ∷ drop (n + 1) (pieces_of sum) → term_of p ≡ Some t → terms_behind sum after_over after (terms_of (drop (n + 1) (pieces_of sum))) ≡ terms_behind sum is_over terms (terms_of (p ∷ drop (n + 1) (pieces_of sum))) → All IsKept after → HasRead sum (n + 1) (place + (length p + 1)) after_over after
+reads_on sum p n place is_over after_over terms after t h low pieces is same kept =
     let free = free_drop n (pieces_of sum) p (drop (n + 1) (pieces_of sum)) (pieces_free sum) pieces in
     let term = term_of_from p t is in
     let joined = ap (join_with_byte 43) pieces ∙ join_is p (drop (n + 1) (pieces_of sum)) in
@@ -198,6 +203,7 @@ reads_on sum p n place is_over after_over terms after t h low pieces is same =
       lives = λ low. rest.0 (omega arith);
       left = λ low. rest.1 (omega arith);
       bound = omega (arith, left, length-append p (behind (drop (n + 1) (pieces_of sum))));
+      kept = kept;
     }
 
 -- a piece that is no term
@@ -226,17 +232,19 @@ viable_short s (b ∷ bs) = ⊎_elim
     (λ some. let e : viable_len s (b ∷ bs) ≡ viable_len some.0 bs + 1 = ap (len_by bs) some.1 in let h = viable_short some.0 bs in omega arith)
     (cases_option (progress_after s b))
 
-pub reads_ok : (sum p : List ℕ) (n place : ℕ) (is_over : Bool) (terms : List Term) (t : Term) → HasRead sum n place is_over terms → n < length (pieces_of sum) → drop n (pieces_of sum) ≡ p ∷ drop (n + 1) (pieces_of sum) → term_within (term_of p) ≡ Ok t → HasRead sum (n + 1) (place + (length p + 1)) is_over (terms ++ t ∷ [])
-reads_ok sum p n place is_over terms t h low pieces ok =
+pub reads_ok : (sum p : List ℕ) (n place : ℕ) (is_over : Bool) (terms : List Term) (t : Term) → HasRead sum n place is_over terms → n < length (pieces_of sum) → drop n (pieces_of sum) ≡ p ∷ drop (n + 1) (pieces_of sum) → term_within (term_of p) ≡ Ok t → IsKept t → HasRead sum (n + 1) (place + (length p + 1)) is_over (terms ++ t ∷ [])
+reads_ok sum p n place is_over terms t h low pieces ok kept =
     let q = term_ok (term_of p) t ok in
     reads_on sum p n place is_over is_over terms (terms ++ t ∷ []) t h low pieces q.0
     (behind_ok sum is_over terms t (terms_of (drop (n + 1) (pieces_of sum))) q.1 ∙ ap (λ x. terms_behind sum is_over terms (terms_onto x (terms_of (drop (n + 1) (pieces_of sum))))) (sym q.0))
+    (All-push IsKept terms t h.kept kept)
 
 pub reads_large : (sum p : List ℕ) (n place : ℕ) (is_over : Bool) (terms : List Term) → HasRead sum n place is_over terms → n < length (pieces_of sum) → drop n (pieces_of sum) ≡ p ∷ drop (n + 1) (pieces_of sum) → term_within (term_of p) ≡ Err TooLarge → HasRead sum (n + 1) (place + (length p + 1)) true terms
 reads_large sum p n place is_over terms h low pieces large =
     let q = term_large (term_of p) large in
     reads_on sum p n place is_over true terms terms q.0 h low pieces q.1
     (behind_large sum is_over terms q.0 (terms_of (drop (n + 1) (pieces_of sum))) q.2 ∙ ap (λ x. terms_behind sum is_over terms (terms_onto x (terms_of (drop (n + 1) (pieces_of sum))))) (sym q.1))
+    h.kept
 
 pub read_over : (sum : List ℕ) (n place : ℕ) (terms : List Term) → HasRead sum n place true terms → n ≡ length (pieces_of sum) → Err faults.NumberTooLarge ≡ sum_read sum
 read_over sum n place terms h all =
@@ -247,3 +255,20 @@ pub read_all : (sum : List ℕ) (n place : ℕ) (terms : List Term) → HasRead 
 read_all sum n place terms h all =
     let none : drop n (pieces_of sum) ≡ [] = drop_of_length-le (pieces_of sum) (omega arith) in
     ap (λ x. Ok x) (sym (append-nil terms)) ∙ ap (λ x. terms_behind sum false terms (terms_of x)) (sym none) ∙ h.reads
+
+-- a sum has one term at least
+some_terms : (sum : List ℕ) (o : Option (List Term)) (ts : List Term) → o ≡ terms_of (pieces_of sum) → terms_behind sum false [] o ≡ Ok ts → 0 < length ts
+some_terms sum None ts is h = cc
+some_terms sum (Some us) ts is h = ⊎_elim
+    (λ w. let e : Ok us ≡ Ok ts = sym (cond-true _ _ _ w) ∙ h in let same : us ≡ ts = cc (e) in
+      subst (λ x. 0 < length x) same (longer us (sum_from_pieces sum us (sym is))))
+    (λ w. let e = sym (cond-false _ _ _ w) ∙ h in cc)
+    (cases_Bool (list_all is_within_limit us))
+  where
+    longer : (us : List Term) → IsSum sum us → 0 < length us
+    longer [] h = absurd h
+    longer (u ∷ us) h = omega arith
+
+pub tree_is : (sum : List ℕ) (n place : ℕ) (terms : List Term) → HasRead sum n place false terms → n ≡ length (pieces_of sum) → IsTree terms
+unfolding sum_read
+tree_is sum n place terms h all = (some_terms sum (terms_of (pieces_of sum)) terms refl (sym (read_all sum n place terms h all)), h.kept)

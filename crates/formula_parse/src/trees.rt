@@ -28,11 +28,18 @@ impl Model for Tree {
 
     ghost Value = { List Term };
 
+    ghost use Rattle.formula_parse.specs.Tree.{IsTree};
+
     ghost view = { λ t. arc_slice_items t.shared };
+
+    ghost invariant = { λ t. IsTree (arc_slice_items t.shared) };
 }
 
 impl Tree {
+    ghost use Rattle.formula_parse.specs.Tree.{IsTree};
+
     pub(crate) fn of(terms: Vec<Term>) -> Result<Tree, AllocError>
+        requires { IsTree terms.items }
         ensures { IfOk result (λ tree. tree ≡ terms.items) }
     {
         Ok(Tree {
@@ -42,7 +49,8 @@ impl Tree {
 
     /// The terms, from left to right.
     pub fn terms(&self) -> &[Term]
-        ensures { result.now ≡ self.now }
+        ensures items { result.now ≡ self.now }
+        ensures tree { IsTree self.now }
     {
         &self.shared
     }

@@ -8,7 +8,7 @@ use Rattle.formula_parse.specs.Reading.{term_within, sum_read}
 use Rattle.formula_parse.specs.declared.terms.TermFault.TheVariants.{NoTerm, TooLarge}
 use Rattle.formula_parse.specs.declared.viability.Progress.TheVariants.{TermStart}
 use Rattle.formula_parse.specs.declared.faults.ParseFault.TheVariants as faults
-use Rattle.formula_parse.proofs.SumLaws.{HasRead, read_none, turn, fault_is, piece_fits, viable_short, reads_ok, reads_large, read_over, read_all}
+use Rattle.formula_parse.proofs.SumLaws.{HasRead, read_none, turn, fault_is, piece_fits, viable_short, reads_ok, reads_large, read_over, read_all, tree_is}
 use Rattle.formula_parse.proofs.sums.read_sum.Goals as goal
 use Rattle.formula_parse.proofs.sums.read_sum.Goals.{in-Ok+in_ok-push-in-Ok, in-Err-TooLarge}
 
@@ -37,7 +37,7 @@ returns-in-Err-NoTerm c =
     let road = YieldsList-at c.into_iter-piece-iterator.ensures.into_iter_gives (YieldsList-from_str_split 43 c.args.sum.now (lit< tt) c.split-piece-items.ensures.text c.split-piece-items.ensures.has_more c.split-piece-items.ensures.pattern) in
     let at = YieldsList-turn road c.loop-piece.yielded _ c.loop-piece.yielded_by _ _ c.in-Some.piece c.in-Some.is c.next.ensures.steps in
     let pieces = turn sum piece n at.0 at.1 in
-    let fault : term_within (term_of piece) ≡ Err NoTerm = sym c.read_term.ensures ∙ (c.in-Err-NoTerm.is ∙ ap (λ x. Err x) c.in-Err-NoTerm.field-0-is) in
+    let fault : term_within (term_of piece) ≡ Err NoTerm = sym c.read_term.ensures.value ∙ (c.in-Err-NoTerm.is ∙ ap (λ x. Err x) c.in-Err-NoTerm.field-0-is) in
     inr (ap (λ m. Err (faults.Syntax (c.loop-piece.place + m))) (c.viable_len_from-viable.ensures ∙ ap (viable_len TermStart) c.as_bytes.ensures.value)
     ∙ fault_is sum piece n c.loop-piece.place c.loop-piece.is_over c.loop-piece.terms.items read at.0 pieces fault)
 
@@ -64,10 +64,10 @@ loop-piece-preserved c =
     let pieces = turn sum piece n at.0 at.1 in
     elim c.match-read_term.branch [
       in-Ok+in_ok-push-in-Ok w ↦ 
-      let ok : term_within (term_of piece) ≡ Ok w.in-Ok.term = sym c.read_term.ensures ∙ w.in-Ok.is in
-      (tt, tt, rw (length_push c.loop-piece.yielded c.in-Some.piece, w.is_over-is, w.terms-is, w.in_ok-push-in-Ok.ensures.items) (reads_ok sum piece n c.loop-piece.place c.loop-piece.is_over c.loop-piece.terms.items w.in-Ok.term read at.0 pieces ok))
+      let ok : term_within (term_of piece) ≡ Ok w.in-Ok.term = sym c.read_term.ensures.value ∙ w.in-Ok.is in
+      (tt, tt, rw (length_push c.loop-piece.yielded c.in-Some.piece, w.is_over-is, w.terms-is, w.in_ok-push-in-Ok.ensures.items) (reads_ok sum piece n c.loop-piece.place c.loop-piece.is_over c.loop-piece.terms.items w.in-Ok.term read at.0 pieces ok w.in-Ok.ensures.kept))
     | in-Err-TooLarge w ↦
-      let large : term_within (term_of piece) ≡ Err TooLarge = sym c.read_term.ensures ∙ (w.in-Err-TooLarge.is ∙ ap (λ x. Err x) w.in-Err-TooLarge.field-0-is) in
+      let large : term_within (term_of piece) ≡ Err TooLarge = sym c.read_term.ensures.value ∙ (w.in-Err-TooLarge.is ∙ ap (λ x. Err x) w.in-Err-TooLarge.field-0-is) in
       (tt, tt, rw (length_push c.loop-piece.yielded c.in-Some.piece, w.is_over-is, w.terms-is) (reads_large sum piece n c.loop-piece.place c.loop-piece.is_over c.loop-piece.terms.items read at.0 pieces large)) ]
 
 pub returns-then-is_over : goal.returns-then-is_over
@@ -76,6 +76,13 @@ returns-then-is_over c =
     let road = YieldsList-at c.into_iter-piece-iterator.ensures.into_iter_gives (YieldsList-from_str_split 43 c.args.sum.now (lit< tt) c.split-piece-items.ensures.text c.split-piece-items.ensures.has_more c.split-piece-items.ensures.pattern) in
     let all = YieldsList-end road c.loop-piece.yielded _ c.loop-piece.yielded_by _ _ c.in-None.is c.next.ensures.steps in
     inr (read_over c.args.sum.now (length c.loop-piece.yielded) c.loop-piece.place c.loop-piece.terms.items (subst (λ o. HasRead c.args.sum.now (length c.loop-piece.yielded) c.loop-piece.place o c.loop-piece.terms.items) c.if-is_over.true read) all.1)
+
+pub of-requires : goal.of-requires
+of-requires c =
+    let read = c.loop-piece.invariant.2 in
+    let road = YieldsList-at c.into_iter-piece-iterator.ensures.into_iter_gives (YieldsList-from_str_split 43 c.args.sum.now (lit< tt) c.split-piece-items.ensures.text c.split-piece-items.ensures.has_more c.split-piece-items.ensures.pattern) in
+    let all = YieldsList-end road c.loop-piece.yielded _ c.loop-piece.yielded_by _ _ c.in-None.is c.next.ensures.steps in
+    tree_is c.args.sum.now (length c.loop-piece.yielded) c.loop-piece.place c.loop-piece.terms.items (subst (λ o. HasRead c.args.sum.now (length c.loop-piece.yielded) c.loop-piece.place o c.loop-piece.terms.items) c.if-is_over.false read) all.1
 
 pub returns : goal.returns
 returns c =
