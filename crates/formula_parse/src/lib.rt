@@ -6,6 +6,8 @@ mod laws;
 mod parser;
 mod sums;
 mod terms;
+#[cfg(test)]
+mod tests;
 mod trees;
 mod viability;
 
