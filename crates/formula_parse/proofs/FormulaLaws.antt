@@ -1,8 +1,7 @@
 -- A formula is read byte for byte, and piece by piece.
-use Rattle.std.proofs.Common.{◌≡◌, ℕ, ◌+◌, ◌-◌, ◌<◌, ◌≤◌, zero, suc, Bool, true, false, cond, ◌&&◌, eqb, List, [], ◌∷◌, ◌++◌, length, take, All, Option, Some, None, option_and_then, option_map, is_some, refl, sym, ap, ◌∙◌, subst, arith, ⊎_elim, ◌⊎◌, inl, inr, codes, eqb-true, append_assoc, append-nil}
-use Rattle.std.specs.List.{slice_split, join_with_byte}
-use Rattle.std.specs.Option.{option_map_or}
-use Rattle.std.proofs.lemmas.Bool.{and_parts, and_from, and_left, and_right, cases_Bool, cond-true, cond-false}
+use Rattle.std.proofs.Common.{◌≡◌, ℕ, ◌<◌, true, false, ◌&&◌, eqb, List, [], ◌∷◌, ◌++◌, length, All, Option, Some, None, option_and_then, option_map, refl, sym, ap, ◌∙◌, subst, arith, ⊎_elim, ◌⊎◌, inl, inr, codes, eqb-true, append_assoc, append-nil}
+use Rattle.std.specs.List.{join_with_byte}
+use Rattle.std.proofs.lemmas.Bool.{and_parts, and_left, and_right, cases_Bool, cond-true, cond-false}
 use Rattle.std.proofs.lemmas.Option.{cond_some, option_and_then_some, same_Some}
 use Rattle.std.proofs.lemmas.List.Splits.{slice_split_none, slice_split_at, join_with_byte-slice_split, length-slice_split}
 use Rattle.formula_parse.specs.declared.trees.Term.{Term}
@@ -82,7 +81,7 @@ within_over : (s : Progress) (p : List ℕ) (e : Progress) (rest : List ℕ) →
 within_over s [] e rest h = ap (λ x. over x rest) (same_Some _ _ h)
 within_over s (b ∷ bs) e rest h =
     option_and_then_some (λ t. within t bs) (progress_within s b) e h (λ t step more.
-      ap (option_and_then (λ t. over t (bs ++ rest))) (after_within s b t step) ∙ within_over t bs e rest more)
+    ap (option_and_then (λ t. over t (bs ++ rest))) (after_within s b t step) ∙ within_over t bs e rest more)
 
 abbrev pub Ends : Progress → List ℕ → Type 0
 Ends s text = (e : Progress) × (over s text ≡ Some e) × (is_whole e ≡ true)
@@ -107,7 +106,7 @@ within_push : (s : Progress) (p : List ℕ) (e : Progress) (b : ℕ) (t : Progre
 within_push s [] e b t h step = ap (λ x. option_and_then (λ t. within t []) (progress_within x b)) (same_Some _ _ h) ∙ ap (option_and_then (λ t. within t [])) step
 within_push s (c ∷ cs) e b t h step =
     option_and_then_some (λ t. within t cs) (progress_within s c) e h (λ u first more.
-      ap (option_and_then (λ t. within t (cs ++ b ∷ []))) first ∙ within_push u cs e b t more step)
+    ap (option_and_then (λ t. within t (cs ++ b ∷ []))) first ∙ within_push u cs e b t more step)
 
 -- what is left of a sum, behind the bytes of a piece so far, ends in a whole term
 sum_from_run : (rest piece : List ℕ) (s e : Progress) → within TermStart piece ≡ Some s → over s rest ≡ Some e → is_whole e ≡ true → (ts : List Term) × IsSum (piece ++ rest) ts
@@ -116,15 +115,15 @@ sum_from_run [] piece s e h more w =
     (q.0 ∷ [], subst (λ x. IsTerm x q.0) (sym (append-nil piece)) q.1)
 sum_from_run (b ∷ bs) piece s e h more w = ⊎_elim
     (λ plus.
-      let p = and_parts (eqb b 43) (is_whole s) plus in
-      let next : over TermStart bs ≡ Some e = ap (option_and_then (λ t. over t bs)) (sym (cond-true _ _ _ plus)) ∙ more in
-      let q = sum_from_run bs [] TermStart e refl next w in
-      let t = term_from_run piece s h p.1 in
-      (t.0 ∷ q.0, subst (λ x. IsSum (piece ++ x ∷ bs) (t.0 ∷ q.0)) (sym (eqb-true b 43 p.0)) (sum_cons piece bs t.0 q.0 t.1 q.1)))
+    let p = and_parts (eqb b 43) (is_whole s) plus in
+    let next : over TermStart bs ≡ Some e = ap (option_and_then (λ t. over t bs)) (sym (cond-true _ _ _ plus)) ∙ more in
+    let q = sum_from_run bs [] TermStart e refl next w in
+    let t = term_from_run piece s h p.1 in
+    (t.0 ∷ q.0, subst (λ x. IsSum (piece ++ x ∷ bs) (t.0 ∷ q.0)) (sym (eqb-true b 43 p.0)) (sum_cons piece bs t.0 q.0 t.1 q.1)))
     (λ other.
-      option_and_then_some (λ t. over t bs) (progress_within s b) e (ap (option_and_then (λ t. over t bs)) (sym (cond-false _ _ _ other)) ∙ more) (λ t step next.
-        let q = sum_from_run bs (piece ++ b ∷ []) t e (within_push TermStart piece s b t h step) next w in
-        (q.0, subst (λ x. IsSum x q.0) (append_assoc piece (b ∷ []) bs) q.1)))
+    option_and_then_some (λ t. over t bs) (progress_within s b) e (ap (option_and_then (λ t. over t bs)) (sym (cond-false _ _ _ other)) ∙ more) (λ t step next.
+    let q = sum_from_run bs (piece ++ b ∷ []) t e (within_push TermStart piece s b t h step) next w in
+    (q.0, subst (λ x. IsSum x q.0) (append_assoc piece (b ∷ []) bs) q.1)))
     (cases_Bool (eqb b 43 && is_whole s))
 
 start_is : (b : ℕ) (t : Progress) → progress_after FormulaStart b ≡ Some t → (b ≡ 61) × (TermStart ≡ t)
@@ -138,9 +137,9 @@ pub formula_from_run : (text : List ℕ) → Ends FormulaStart text → (ts : Li
 formula_from_run [] h = let e : true ≡ false = sym h.2 ∙ ap is_whole (sym (same_Some _ _ h.1)) in cc
 formula_from_run (b ∷ bs) h =
     option_and_then_some (λ t. over t bs) (progress_after FormulaStart b) h.0 h.1 (λ t step more.
-      let p = start_is b t step in
-      let q = sum_from_run bs [] TermStart h.0 refl (ap (λ x. over x bs) p.1 ∙ more) h.2 in
-      (q.0, (bs, ap (λ x. x ∷ bs) p.0, q.1)))
+    let p = start_is b t step in
+    let q = sum_from_run bs [] TermStart h.0 refl (ap (λ x. over x bs) p.1 ∙ more) h.2 in
+    (q.0, (bs, ap (λ x. x ∷ bs) p.0, q.1)))
 
 -- ---- what begins a formula
 -- one of four texts completes each progress

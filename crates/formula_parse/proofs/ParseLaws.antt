@@ -1,12 +1,11 @@
 -- What parsing a text answers, in the words of the grammar.
-use Rattle.std.proofs.Common.{◌≡◌, ℕ, suc, ◌+◌, ◌<◌, ◌≤◌, Bool, true, false, not, cond, ◌&&◌, ltb, List, [], ◌∷◌, ◌++◌, length, All, Any, Option, Some, None, Result, Ok, Err, IfOk, option_and_then, refl, sym, ap, ◌∙◌, subst, arith, ⊎_elim, ◌⊎◌, inl, inr, ◌≢◌, eqb, eqb-true, ltb-true, ltb-false, lt-ltb, le-ltb, ◌↔◌}
+use Rattle.std.proofs.Common.{◌≡◌, ℕ, suc, ◌+◌, ◌<◌, Bool, true, false, cond, ◌&&◌, List, [], ◌∷◌, length, All, Any, Option, Some, None, Result, Ok, Err, IfOk, option_and_then, refl, sym, ap, ◌∙◌, subst, arith, ⊎_elim, ◌⊎◌, inl, inr, ◌≢◌, eqb, eqb-true, ltb-true, ltb-false, le-ltb, ◌↔◌}
 use Rattle.std.specs.List.{list_all}
 use Rattle.std.specs.Result.{result_ok}
 use Rattle.std.specs.Str.{chars}
 use Rattle.std.proofs.lemmas.Bool.{cases_Bool, cond-true, cond-false, and_parts, and_from, and_right, and_cases}
 use Rattle.std.specs.Option.{option_map_or}
 use Rattle.std.proofs.lemmas.Option.{cond_some, option_and_then_some, same_Some}
-use Rattle.std.proofs.lemmas.Bool.Decides.{nat_tests}
 use Rattle.std.proofs.lemmas.Int.{ints}
 use Rattle.std.proofs.lemmas.List.Elements.{All-nil, All-cons, All-head, All-tail}
 use Rattle.formula_parse.specs.declared.trees.Term.{Term}
@@ -102,7 +101,7 @@ pub ok_law : (text : List ℕ) (ts : List Term) → parsed text ≡ Ok ts → Is
 ok_law text ts h = ⊎_elim
     (λ long. let e = long.1 in cc)
     (λ short. let q = judged_ok text (unlimited_formula_of text) ts short.1 in
-      record { short = short_is text short.0; written = unlimited_from text ts q.0; numbers = all_within_is ts q.1 })
+    record { short = short_is text short.0; written = unlimited_from text ts q.0; numbers = all_within_is ts q.1 })
     (parsed_cases text (Ok ts) h)
 
 none_unlimited : (text : List ℕ) → unlimited_formula_of text ≡ None → (ts : List Term) → ¬ IsUnlimitedFormula text ts
@@ -112,14 +111,14 @@ pub syntax_law : (text : List ℕ) (place : ℕ) → parsed text ≡ Err (faults
 syntax_law text place h = ⊎_elim
     (λ long. let e = long.1 in cc)
     (λ short. let q = judged_syntax text (unlimited_formula_of text) place short.1 in
-      record { short = short_is text short.0; none = none_unlimited text q.0; up_to = subst (IsSyntaxPlace text) (sym (syntax_place_is text) ∙ q.1) (place_is text) })
+    record { short = short_is text short.0; none = none_unlimited text q.0; up_to = subst (IsSyntaxPlace text) (sym (syntax_place_is text) ∙ q.1) (place_is text) })
     (parsed_cases text (Err (faults.Syntax place)) h)
 
 pub number_law : (text : List ℕ) → parsed text ≡ Err faults.NumberTooLarge → IsNumberFault text
 number_law text h = ⊎_elim
     (λ long. let e = long.1 in cc)
     (λ short. let q = judged_number text (unlimited_formula_of text) short.1 in
-      record { short = short_is text short.0; terms = q.0; written = unlimited_from text q.0 q.1; over = any_over_is q.0 q.2 })
+    record { short = short_is text short.0; terms = q.0; written = unlimited_from text q.0 q.1; over = any_over_is q.0 q.2 })
     (parsed_cases text (Err faults.NumberTooLarge) h)
 
 pub long_law : (text : List ℕ) → parsed text ≡ Err faults.TooLong → 8192 < length (chars text)
@@ -144,9 +143,9 @@ no_sign_judged [] h = ap (λ n. Err (faults.Syntax n)) (sym (syntax_place_is [])
 no_sign_judged (b ∷ bs) h = ⊎_elim
     (λ sign. absurd (h bs (ap (λ x. x ∷ bs) (eqb-true b 61 sign))))
     (λ other.
-      let none : unlimited_formula_of (b ∷ bs) ≡ None = cond-false _ _ _ other in
-      let dead : viable_len FormulaStart (b ∷ bs) ≡ 0 = ap (λ o. option_map_or (λ next. viable_len next bs + 1) o 0) (cond-false (eqb b 43 && false) (Some TermStart) (progress_within FormulaStart b) (and_right (eqb b 43) false refl) ∙ cond-false (eqb b 61) (Some TermStart) None other) in
-      ap (λ n. Err (faults.Syntax n)) (sym (syntax_place_is (b ∷ bs) ∙ dead)) ∙ ap (judged (b ∷ bs)) (sym none))
+    let none : unlimited_formula_of (b ∷ bs) ≡ None = cond-false _ _ _ other in
+    let dead : viable_len FormulaStart (b ∷ bs) ≡ 0 = ap (λ o. option_map_or (λ next. viable_len next bs + 1) o 0) (cond-false (eqb b 43 && false) (Some TermStart) (progress_within FormulaStart b) (and_right (eqb b 43) false refl) ∙ cond-false (eqb b 61) (Some TermStart) None other) in
+    ap (λ n. Err (faults.Syntax n)) (sym (syntax_place_is (b ∷ bs) ∙ dead)) ∙ ap (judged (b ∷ bs)) (sym none))
     (cases_Bool (eqb b 61))
 
 -- ---- one tree for a text
@@ -160,9 +159,9 @@ unfolding formula_of
 formula_back text ts h = ⊎_elim
     (λ long. let e : None ≡ Some ts = sym (cond-true _ _ _ long) ∙ h in cc)
     (λ short.
-      option_and_then_some within_limits (unlimited_formula_of text) ts (sym (cond-false _ _ _ short) ∙ h) (λ us is within.
-        let q = cond_some _ _ _ within in
-        record { short = short_is text short; written = unlimited_from text ts (is ∙ ap (λ x. Some x) q.1); numbers = subst (All IsWithinLimit) q.1 (all_within_is us q.0) }))
+    option_and_then_some within_limits (unlimited_formula_of text) ts (sym (cond-false _ _ _ short) ∙ h) (λ us is within.
+    let q = cond_some _ _ _ within in
+    record { short = short_is text short; written = unlimited_from text ts (is ∙ ap (λ x. Some x) q.1); numbers = subst (All IsWithinLimit) q.1 (all_within_is us q.0) }))
     (cases_Bool (is_too_long text))
 
 pub one_tree_law : (text : List ℕ) (a b : List Term) → IsUnlimitedFormula text a → IsUnlimitedFormula text b → a ≡ b
@@ -183,9 +182,10 @@ pub ok_clause : (text : List ℕ) (r : Result (List Term) ParseFault) → Gives 
 ok_clause text r h = ⊎_elim (λ memory. subst (λ x. IfOk x (IsFormula text)) (sym memory) tt) (λ read. ok_from text r (sym read)) h
 
 pub long_clause : (text : List ℕ) (r : Result (List Term) ParseFault) → is_too_long text ≡ false → Gives text r → (r ≡ Err faults.TooLong) ↔ (8192 < length (chars text))
-long_clause text r short h =
-    (λ e. ⊎_elim (λ memory. let f = sym memory ∙ e in cc) (λ read. long_law text (sym read ∙ e)) h,
-     λ long. absurd (omega (arith, short_is text short)))
+long_clause text r short h = (
+  λ e. ⊎_elim (λ memory. let f = sym memory ∙ e in cc) (λ read. long_law text (sym read ∙ e)) h,
+  λ long. absurd (omega (arith, short_is text short)),
+)
 
 pub syntax_clause : (text : List ℕ) (r : Result (List Term) ParseFault) → Gives text r → (place : ℕ) → r ≡ Err (faults.Syntax place) → IsSyntaxFault text place
 syntax_clause text r h place e = ⊎_elim (λ memory. let f = sym memory ∙ e in cc) (λ read. syntax_law text place (sym read ∙ e)) h

@@ -1,15 +1,14 @@
 -- The place of a syntax fault.
-use Rattle.std.proofs.Common.{◌≡◌, ℕ, ◌+◌, ◌-◌, ◌<◌, ◌≤◌, zero, suc, Bool, true, false, cond, ◌&&◌, ◌||◌, eqb, List, [], ◌∷◌, ◌++◌, length, take, Option, Some, None, option_and_then, is_some, refl, sym, ap, ◌∙◌, subst, arith, ⊎_elim, ◌⊎◌, inl, inr, codes, append-nil, add-one}
-use Rattle.std.specs.List.{list_any}
+use Rattle.std.proofs.Common.{◌≡◌, ℕ, ◌+◌, ◌≤◌, zero, suc, Bool, true, false, ◌||◌, List, [], ◌∷◌, ◌++◌, length, take, Option, Some, None, option_and_then, is_some, refl, sym, ap, ◌∙◌, arith, ⊎_elim, ◌⊎◌, inl, inr, codes, add-one}
 use Rattle.std.specs.Option.{option_map_or}
 use Rattle.std.proofs.lemmas.Bool.{cases_Bool, cond-true, cond-false, both_ways, cases_eq, or_left, or_right, or_cases}
 use Rattle.std.proofs.lemmas.Option.{option_and_then_some, same_Some}
 use Rattle.formula_parse.specs.declared.trees.Term.{Term}
 use Rattle.formula_parse.specs.declared.viability.Progress.{Progress}
-use Rattle.formula_parse.specs.declared.viability.Progress.TheVariants.{FormulaStart, TermStart}
+use Rattle.formula_parse.specs.declared.viability.Progress.TheVariants.{FormulaStart}
 use Rattle.formula_parse.specs.Grammar.{IsUnlimitedFormula, unlimited_formula_of}
 use Rattle.formula_parse.specs.Parsed.{IsViable, IsSyntaxPlace, is_viable, longest_front, syntax_place}
-use Rattle.formula_parse.specs.Progress.{progress_after, is_whole, viable_len}
+use Rattle.formula_parse.specs.Progress.{progress_after, viable_len}
 use Rattle.formula_parse.proofs.FormulaLaws.{over, Ends, completed, formula_runs, formula_from_run, unlimited_is, unlimited_from}
 
 -- ---- fronts
@@ -17,14 +16,14 @@ front_lives : (front rest : List ℕ) (s e : Progress) → over s (front ++ rest
 front_lives [] rest s e h = (s, refl, h)
 front_lives (b ∷ bs) rest s e h =
     option_and_then_some (λ t. over t (bs ++ rest)) (progress_after s b) e h (λ t step more.
-      let q = front_lives bs rest t e more in
-      (q.0, ap (option_and_then (λ t. over t bs)) step ∙ q.1, q.2))
+    let q = front_lives bs rest t e more in
+    (q.0, ap (option_and_then (λ t. over t bs)) step ∙ q.1, q.2))
 
 front_joins : (front rest : List ℕ) (s t : Progress) → over s front ≡ Some t → over s (front ++ rest) ≡ over t rest
 front_joins [] rest s t h = ap (λ x. over x rest) (same_Some _ _ h)
 front_joins (b ∷ bs) rest s t h =
     option_and_then_some (λ u. over u bs) (progress_after s b) t h (λ u step more.
-      ap (option_and_then (λ u. over u (bs ++ rest))) step ∙ front_joins bs rest u t more)
+    ap (option_and_then (λ u. over u (bs ++ rest))) step ∙ front_joins bs rest u t more)
 
 pub viable_lives : (front : List ℕ) → IsViable front → is_some (over FormulaStart front) ≡ true
 viable_lives front h =
@@ -59,12 +58,12 @@ lives_test front h =
     ⊎_elim
     (λ c. or_left one (two || (three || (four || false))) (passes front [] (completes front [] s.0 s.1 c)))
     (λ more. or_right one (two || (three || (four || false))) (⊎_elim
-      (λ c. or_left two (three || (four || false)) (passes front (codes "1") (completes front (codes "1") s.0 s.1 c)))
-      (λ more. or_right two (three || (four || false)) (⊎_elim
-        (λ c. or_left three (four || false) (passes front (codes "A1") (completes front (codes "A1") s.0 s.1 c)))
-        (λ c. or_right three (four || false) (or_left four false (passes front (codes "=1") (completes front (codes "=1") s.0 s.1 c))))
-        more))
-      more))
+    (λ c. or_left two (three || (four || false)) (passes front (codes "1") (completes front (codes "1") s.0 s.1 c)))
+    (λ more. or_right two (three || (four || false)) (⊎_elim
+    (λ c. or_left three (four || false) (passes front (codes "A1") (completes front (codes "A1") s.0 s.1 c)))
+    (λ c. or_right three (four || false) (or_left four false (passes front (codes "=1") (completes front (codes "=1") s.0 s.1 c))))
+    more))
+    more))
     (completed s.0)
 
 viable_by : (front rest : List ℕ) → test front rest ≡ true → IsViable front
@@ -79,12 +78,12 @@ test_viable front h =
     ⊎_elim
     (λ c. viable_by front [] c)
     (λ more. ⊎_elim
-      (λ c. viable_by front (codes "1") c)
-      (λ more. ⊎_elim
-        (λ c. viable_by front (codes "A1") c)
-        (λ more. ⊎_elim (λ c. viable_by front (codes "=1") c) (λ none. cc) (or_cases four false more))
-        (or_cases three (four || false) more))
-      (or_cases two (three || (four || false)) more))
+    (λ c. viable_by front (codes "1") c)
+    (λ more. ⊎_elim
+    (λ c. viable_by front (codes "A1") c)
+    (λ more. ⊎_elim (λ c. viable_by front (codes "=1") c) (λ none. cc) (or_cases four false more))
+    (or_cases three (four || false) more))
+    (or_cases two (three || (four || false)) more))
     (or_cases one (two || (three || (four || false))) h)
 
 -- the test of a front says what the grammar does
@@ -111,10 +110,10 @@ viable_front s [] = refl
 viable_front s (b ∷ bs) = ⊎_elim
     (λ none. let e : viable_len s (b ∷ bs) ≡ 0 = ap (len_by bs) none in ap (λ n. is_some (over s (take n (b ∷ bs)))) e)
     (λ some.
-      let e : viable_len s (b ∷ bs) ≡ suc (viable_len some.0 bs) = ap (len_by bs) some.1 ∙ add-one (viable_len some.0 bs) in
-      ap (λ n. is_some (over s (take n (b ∷ bs)))) e
-      ∙ ap (λ o. is_some (option_and_then (λ t. over t (take (viable_len some.0 bs) bs)) o)) some.1
-      ∙ viable_front some.0 bs)
+    let e : viable_len s (b ∷ bs) ≡ suc (viable_len some.0 bs) = ap (len_by bs) some.1 ∙ add-one (viable_len some.0 bs) in
+    ap (λ n. is_some (over s (take n (b ∷ bs)))) e
+    ∙ ap (λ o. is_some (option_and_then (λ t. over t (take (viable_len some.0 bs) bs)) o)) some.1
+    ∙ viable_front some.0 bs)
     (cases_option (progress_after s b))
 
 viable_most : (s : Progress) (text : List ℕ) (n : ℕ) → n ≤ length text → is_some (over s (take n text)) ≡ true → n ≤ viable_len s text
@@ -123,9 +122,9 @@ viable_most s [] (suc n) within h = absurd (omega arith)
 viable_most s (b ∷ bs) (suc n) within h = ⊎_elim
     (λ none. let e : false ≡ true = ap (λ o. is_some (option_and_then (λ t. over t (take n bs)) o)) (sym none) ∙ h in cc)
     (λ some.
-      let e : viable_len s (b ∷ bs) ≡ viable_len some.0 bs + 1 = ap (len_by bs) some.1 in
-      let q = viable_most some.0 bs n (omega arith) (ap (λ o. is_some (option_and_then (λ t. over t (take n bs)) o)) (sym some.1) ∙ h) in
-      omega arith)
+    let e : viable_len s (b ∷ bs) ≡ viable_len some.0 bs + 1 = ap (len_by bs) some.1 in
+    let q = viable_most some.0 bs n (omega arith) (ap (λ o. is_some (option_and_then (λ t. over t (take n bs)) o)) (sym some.1) ∙ h) in
+    omega arith)
     (cases_option (progress_after s b))
 
 pub place_is : (text : List ℕ) → IsSyntaxPlace text (viable_len FormulaStart text)
@@ -140,11 +139,11 @@ longest_is : (text : List ℕ) (place n : ℕ) → IsSyntaxPlace text place → 
 longest_is text place zero p low high = omega arith
 longest_is text place (suc n) p low high = ⊎_elim
     (λ passes.
-      let most = p.longest (suc n) high (test_viable (take (suc n) text) passes) in
-      cond-true _ (suc n) _ passes ∙ omega arith)
+    let most = p.longest (suc n) high (test_viable (take (suc n) text) passes) in
+    cond-true _ (suc n) _ passes ∙ omega arith)
     (λ fails.
-      let less : place ≤ n = ⊎_elim (λ e. absurd (both_ways (is_viable (take (suc n) text)) fails (ap (λ m. is_viable (take m text)) (sym e) ∙ viable_test (take place text) p.viable))) (λ other. omega (arith, other)) (cases_eq place (suc n)) in
-      cond-false _ _ _ fails ∙ longest_is text place n p less (omega arith))
+    let less : place ≤ n = ⊎_elim (λ e. absurd (both_ways (is_viable (take (suc n) text)) fails (ap (λ m. is_viable (take m text)) (sym e) ∙ viable_test (take place text) p.viable))) (λ other. omega (arith, other)) (cases_eq place (suc n)) in
+    cond-false _ _ _ fails ∙ longest_is text place n p less (omega arith))
     (cases_Bool (is_viable (take (suc n) text)))
 
 pub syntax_place_is : (text : List ℕ) → syntax_place text ≡ viable_len FormulaStart text

@@ -1,5 +1,5 @@
 -- A reference without a sheet is read byte for byte.
-use Rattle.std.proofs.Common.{◌≡◌, ℕ, ◌+◌, ◌-◌, ◌*◌, ◌<◌, ◌≤◌, Bool, true, false, cond, ◌&&◌, eqb, ltb, leb, List, [], ◌∷◌, ◌++◌, length, drop, take, fold, take_while, Option, Some, None, option_and_then, option_map, is_some, refl, sym, ap, ◌∙◌, arith, rules, tests, ltb-true, leb-true, le-leb, lt-ltb, if◌then◌else◌, slice_index, codes, eqb-true, ◌⊎◌, ⊎_elim, inl, inr, le_trans}
+use Rattle.std.proofs.Common.{◌≡◌, ℕ, ◌+◌, ◌-◌, ◌*◌, ◌<◌, ◌≤◌, Bool, true, false, cond, eqb, List, [], ◌∷◌, ◌++◌, length, drop, fold, take_while, Option, Some, None, option_and_then, option_map, refl, sym, ap, ◌∙◌, arith, ltb-true, leb-true, le-leb, lt-ltb, slice_index, codes, eqb-true, ◌⊎◌, ⊎_elim, inl, inr, le_trans}
 use Rattle.std.specs.Char.{is_ascii_digit, is_ascii_alphabetic, is_ascii_uppercase, to_ascii_uppercase, digit_value}
 use Rattle.std.specs.Option.{option_map_or}
 use Rattle.std.specs.Str.Parse.{digits_value, digits_value_after}
@@ -11,9 +11,9 @@ use Rattle.std.proofs.lemmas.List.Sums.{take_while-cons}
 use Rattle.std.proofs.lemmas.Option.{cond_some, option_and_then_some, same_Some}
 use Rattle.cell_refs.specs.declared.references.RefText.{RefText}
 use Rattle.cell_refs.specs.Reading.{number_at, mark_at, column_at, column_number, rest_after, sheet_number_at, sheet_at, reference_in, ◌>>=◌}
-use Rattle.cell_refs.specs.Written.{capitals, reference_at}
+use Rattle.cell_refs.specs.Written.{capitals}
 use Rattle.formula_parse.specs.declared.viability.Progress.{Progress}
-use Rattle.formula_parse.specs.declared.viability.Progress.TheVariants.{FormulaStart, TermStart, Number, ColumnMark, Column, RowMark, Row}
+use Rattle.formula_parse.specs.declared.viability.Progress.TheVariants.{TermStart, Number, ColumnMark, Column, RowMark, Row}
 use Rattle.formula_parse.specs.Progress.{column_after, row_after, progress_within}
 
 -- the progress with all the bytes of a piece of one term
@@ -93,13 +93,13 @@ unfolding progress_within
 row_forth n [] some all low = refl
 row_forth n (b ∷ bs) some all low = ⊎_elim
     (λ d.
-      let s = span_yes is_ascii_digit (to_ascii_uppercase b) (capitals bs) d in
-      let e : is_ascii_digit b ≡ true = sym (digit_upper b) ∙ d in
-      let next : n * 10 + digit_value (to_ascii_uppercase b) ≡ 10 * n + (b - 48) = omega (arith, digit_is b e) in
-      let v : digits_value_after 10 n (digits (b ∷ bs)) ≡ digits_value_after 10 (10 * n + (b - 48)) (digits bs) = ap (digits_value_after 10 n) s.0 ∙ ap (λ m. digits_value_after 10 m (digits bs)) next in
-      let small : digits_value_after 10 (10 * n + (b - 48)) (digits bs) ≤ 1048576 = omega arith in
-      let step = row_step n b e (omega arith) (le_trans (value_grows _ (digits bs)) small) in
-      ap (option_and_then (λ t. within t bs)) step ∙ row_forth (10 * n + (b - 48)) bs (omega arith) (sym s.1 ∙ all) small ∙ ap (λ m. Some (Row m)) (sym v))
+    let s = span_yes is_ascii_digit (to_ascii_uppercase b) (capitals bs) d in
+    let e : is_ascii_digit b ≡ true = sym (digit_upper b) ∙ d in
+    let next : n * 10 + digit_value (to_ascii_uppercase b) ≡ 10 * n + (b - 48) = omega (arith, digit_is b e) in
+    let v : digits_value_after 10 n (digits (b ∷ bs)) ≡ digits_value_after 10 (10 * n + (b - 48)) (digits bs) = ap (digits_value_after 10 n) s.0 ∙ ap (λ m. digits_value_after 10 m (digits bs)) next in
+    let small : digits_value_after 10 (10 * n + (b - 48)) (digits bs) ≤ 1048576 = omega arith in
+    let step = row_step n b e (omega arith) (le_trans (value_grows _ (digits bs)) small) in
+    ap (option_and_then (λ t. within t bs)) step ∙ row_forth (10 * n + (b - 48)) bs (omega arith) (sym s.1 ∙ all) small ∙ ap (λ m. Some (Row m)) (sym v))
     (λ no. let s = span_no is_ascii_digit (to_ascii_uppercase b) (capitals bs) no in let t = sym s.1 ∙ all in cc)
     (cases_Bool (is_ascii_digit (to_ascii_uppercase b)))
 
@@ -111,13 +111,13 @@ unfolding progress_within
 row_back n [] s h = (refl, cc, λ small. small)
 row_back n (b ∷ bs) s h =
     option_and_then_some (λ t. within t bs) (row_after n b) s h (λ t step rest.
-      let p = row_step_parts n b t step in
-      let q = row_back (10 * n + (b - 48)) bs s (ap (λ x. within x bs) p.3 ∙ rest) in
-      let sp = span_yes is_ascii_digit (to_ascii_uppercase b) (capitals bs) (digit_upper b ∙ p.0) in
-      let next : n * 10 + digit_value (to_ascii_uppercase b) ≡ 10 * n + (b - 48) = omega (arith, digit_is b p.0) in
-      let v : digits_value_after 10 n (digits (b ∷ bs)) ≡ digits_value_after 10 (10 * n + (b - 48)) (digits bs) = ap (digits_value_after 10 n) sp.0 ∙ ap (λ m. digits_value_after 10 m (digits bs)) next in
-      let small = q.2 p.2 in
-      (sp.1 ∙ q.0, q.1 ∙ ap Row (sym v), λ _. omega arith))
+    let p = row_step_parts n b t step in
+    let q = row_back (10 * n + (b - 48)) bs s (ap (λ x. within x bs) p.3 ∙ rest) in
+    let sp = span_yes is_ascii_digit (to_ascii_uppercase b) (capitals bs) (digit_upper b ∙ p.0) in
+    let next : n * 10 + digit_value (to_ascii_uppercase b) ≡ 10 * n + (b - 48) = omega (arith, digit_is b p.0) in
+    let v : digits_value_after 10 n (digits (b ∷ bs)) ≡ digits_value_after 10 (10 * n + (b - 48)) (digits bs) = ap (digits_value_after 10 n) sp.0 ∙ ap (λ m. digits_value_after 10 m (digits bs)) next in
+    let small = q.2 p.2 in
+    (sp.1 ∙ q.0, q.1 ∙ ap Row (sym v), λ _. omega arith))
 
 -- ---- the parts of what the readers of references answer
 number_parts : (limit : ℕ) (text : List ℕ) (row : ℕ) (rest : List ℕ) → number_at limit text ≡ Some (row, rest) → (48 < slice_index (take_while is_ascii_digit text) 0) × (digits_value 10 (take_while is_ascii_digit text) ≤ limit) × (digits_value 10 (take_while is_ascii_digit text) ≡ row) × (drop (length (take_while is_ascii_digit text)) text ≡ rest)
@@ -148,12 +148,12 @@ column_from text some few high = cond-true _ _ _ (and_from _ _ (and_from _ _ (lt
 first_digit : (b : ℕ) (bs : List ℕ) → 48 < slice_index (digits (b ∷ bs)) 0 → (is_ascii_digit b ≡ true) × (48 < b)
 first_digit b bs h = ⊎_elim
     (λ d.
-      let s = span_yes is_ascii_digit (to_ascii_uppercase b) (capitals bs) d in
-      let e : is_ascii_digit b ≡ true = sym (digit_upper b) ∙ d in
-      let u : slice_index (digits (b ∷ bs)) 0 ≡ to_ascii_uppercase b = ap (λ ds. slice_index ds 0) s.0 in
-      (e, omega (arith, upper_digit b e)))
+    let s = span_yes is_ascii_digit (to_ascii_uppercase b) (capitals bs) d in
+    let e : is_ascii_digit b ≡ true = sym (digit_upper b) ∙ d in
+    let u : slice_index (digits (b ∷ bs)) 0 ≡ to_ascii_uppercase b = ap (λ ds. slice_index ds 0) s.0 in
+    (e, omega (arith, upper_digit b e)))
     (λ no. let s = span_no is_ascii_digit (to_ascii_uppercase b) (capitals bs) no in
-      let u : slice_index (digits (b ∷ bs)) 0 ≡ 0 = ap (λ ds. slice_index ds 0) s.0 in absurd (omega arith))
+    let u : slice_index (digits (b ∷ bs)) 0 ≡ 0 = ap (λ ds. slice_index ds 0) s.0 in absurd (omega arith))
     (cases_Bool (is_ascii_digit (to_ascii_uppercase b)))
 
 -- a row is read with the same digits as its number
@@ -174,18 +174,19 @@ number_back : (c : ℕ) (cs : List ℕ) (row : ℕ) → within (Row 0) (c ∷ cs
 unfolding progress_within
 number_back c cs row h =
     option_and_then_some (λ t. within t cs) (row_after 0 c) (Row row) h (λ t step rest.
-      let p = row_step_parts 0 c t step in
-      let q = row_back (10 * 0 + (c - 48)) cs (Row row) (ap (λ x. within x cs) p.3 ∙ rest) in
-      let sp = span_yes is_ascii_digit (to_ascii_uppercase c) (capitals cs) (digit_upper c ∙ p.0) in
-      let next : 0 * 10 + digit_value (to_ascii_uppercase c) ≡ 10 * 0 + (c - 48) = omega (arith, digit_is c p.0) in
-      let v : digits_value 10 (digits (c ∷ cs)) ≡ digits_value_after 10 (10 * 0 + (c - 48)) (digits cs) = ap (digits_value_after 10 0) sp.0 ∙ ap (λ m. digits_value_after 10 m (digits cs)) next in
-      let row_is : row ≡ digits_value_after 10 (10 * 0 + (c - 48)) (digits cs) = cc (q.1) in
-      let u : slice_index (digits (c ∷ cs)) 0 ≡ to_ascii_uppercase c = ap (λ ds. slice_index ds 0) sp.0 in
-      let value : digits_value 10 (digits (c ∷ cs)) ≡ row = v ∙ sym row_is in
-      let none : after_digits (c ∷ cs) ≡ [] = sp.1 ∙ q.0 in
-      (p.0,
-       number_from 1048576 (capitals (c ∷ cs)) (omega (arith, upper_digit c p.0)) (omega (arith, q.2 p.2))
-       ∙ (ap (λ x. Some (x, after_digits (c ∷ cs))) value ∙ ap (λ y. Some (row, y)) none)))
+    let p = row_step_parts 0 c t step in
+    let q = row_back (10 * 0 + (c - 48)) cs (Row row) (ap (λ x. within x cs) p.3 ∙ rest) in
+    let sp = span_yes is_ascii_digit (to_ascii_uppercase c) (capitals cs) (digit_upper c ∙ p.0) in
+    let next : 0 * 10 + digit_value (to_ascii_uppercase c) ≡ 10 * 0 + (c - 48) = omega (arith, digit_is c p.0) in
+    let v : digits_value 10 (digits (c ∷ cs)) ≡ digits_value_after 10 (10 * 0 + (c - 48)) (digits cs) = ap (digits_value_after 10 0) sp.0 ∙ ap (λ m. digits_value_after 10 m (digits cs)) next in
+    let row_is : row ≡ digits_value_after 10 (10 * 0 + (c - 48)) (digits cs) = cc (q.1) in
+    let u : slice_index (digits (c ∷ cs)) 0 ≡ to_ascii_uppercase c = ap (λ ds. slice_index ds 0) sp.0 in
+    let value : digits_value 10 (digits (c ∷ cs)) ≡ row = v ∙ sym row_is in
+    let none : after_digits (c ∷ cs) ≡ [] = sp.1 ∙ q.0 in (
+      p.0,
+      number_from 1048576 (capitals (c ∷ cs)) (omega (arith, upper_digit c p.0)) (omega (arith, q.2 p.2))
+          ∙ (ap (λ x. Some (x, after_digits (c ∷ cs))) value ∙ ap (λ y. Some (row, y)) none),
+    ))
 
 -- ---- columns
 abbrev letter_fold : ℕ → List ℕ → ℕ
@@ -208,16 +209,16 @@ column_forth : (n : ℕ) (v : List ℕ) → letter_fold n (letters v) ≤ 16384 
 column_forth n [] high = ([], refl, refl)
 column_forth n (b ∷ bs) high = ⊎_elim
     (λ l.
-      let s = span_yes is_ascii_uppercase (to_ascii_uppercase b) (capitals bs) l in
-      let e : is_ascii_alphabetic b ≡ true = sym (letter_upper b) ∙ l in
-      let v : letter_fold n (letters (b ∷ bs)) ≡ letter_fold (26 * n + (to_ascii_uppercase b - 64)) (letters bs) = ap (letter_fold n) s.0 in
-      let small : letter_fold (26 * n + (to_ascii_uppercase b - 64)) (letters bs) ≤ 16384 = omega arith in
-      let step = letter_within n b e ∙ column_step n b e (le_trans (column_grows _ (letters bs)) small) in
-      let q = column_forth (26 * n + (to_ascii_uppercase b - 64)) bs small in
-      (q.0, q.1 ∙ sym s.1, ap (option_and_then (λ t. within t bs)) step ∙ q.2 ∙ ap (λ m. within (Column m) q.0) (sym v)))
+    let s = span_yes is_ascii_uppercase (to_ascii_uppercase b) (capitals bs) l in
+    let e : is_ascii_alphabetic b ≡ true = sym (letter_upper b) ∙ l in
+    let v : letter_fold n (letters (b ∷ bs)) ≡ letter_fold (26 * n + (to_ascii_uppercase b - 64)) (letters bs) = ap (letter_fold n) s.0 in
+    let small : letter_fold (26 * n + (to_ascii_uppercase b - 64)) (letters bs) ≤ 16384 = omega arith in
+    let step = letter_within n b e ∙ column_step n b e (le_trans (column_grows _ (letters bs)) small) in
+    let q = column_forth (26 * n + (to_ascii_uppercase b - 64)) bs small in
+    (q.0, q.1 ∙ sym s.1, ap (option_and_then (λ t. within t bs)) step ∙ q.2 ∙ ap (λ m. within (Column m) q.0) (sym v)))
     (λ no.
-      let s = span_no is_ascii_uppercase (to_ascii_uppercase b) (capitals bs) no in
-      (b ∷ bs, sym s.1, ap (λ ls. within (Column (letter_fold n ls)) (b ∷ bs)) (sym s.0)))
+    let s = span_no is_ascii_uppercase (to_ascii_uppercase b) (capitals bs) no in
+    (b ∷ bs, sym s.1, ap (λ ls. within (Column (letter_fold n ls)) (b ∷ bs)) (sym s.0)))
     (cases_Bool (is_ascii_uppercase (to_ascii_uppercase b)))
 
 -- the text begins with no letter
@@ -229,17 +230,17 @@ column_back : (n : ℕ) (v : List ℕ) (s : Progress) → within (Column n) v �
 column_back n [] s h small = ([], refl, h, tt, small)
 column_back n (b ∷ bs) s h small = ⊎_elim
     (λ l.
-      let sp = span_yes is_ascii_uppercase (to_ascii_uppercase b) (capitals bs) l in
-      let e : is_ascii_alphabetic b ≡ true = sym (letter_upper b) ∙ l in
-      let v : letter_fold n (letters (b ∷ bs)) ≡ letter_fold (26 * n + (to_ascii_uppercase b - 64)) (letters bs) = ap (letter_fold n) sp.0 in
-      option_and_then_some (λ t. within t bs) (progress_within (Column n) b) s h (λ t step rest.
-        let p = column_step_parts n b t (sym (letter_within n b e) ∙ step) in
-        let q = column_back (26 * n + (to_ascii_uppercase b - 64)) bs s (ap (λ x. within x bs) p.2 ∙ rest) p.1 in
-        (q.0, q.1 ∙ sym sp.1, ap (λ m. within (Column m) q.0) v ∙ q.2, q.3, omega (arith, q.4))))
+    let sp = span_yes is_ascii_uppercase (to_ascii_uppercase b) (capitals bs) l in
+    let e : is_ascii_alphabetic b ≡ true = sym (letter_upper b) ∙ l in
+    let v : letter_fold n (letters (b ∷ bs)) ≡ letter_fold (26 * n + (to_ascii_uppercase b - 64)) (letters bs) = ap (letter_fold n) sp.0 in
+    option_and_then_some (λ t. within t bs) (progress_within (Column n) b) s h (λ t step rest.
+    let p = column_step_parts n b t (sym (letter_within n b e) ∙ step) in
+    let q = column_back (26 * n + (to_ascii_uppercase b - 64)) bs s (ap (λ x. within x bs) p.2 ∙ rest) p.1 in
+    (q.0, q.1 ∙ sym sp.1, ap (λ m. within (Column m) q.0) v ∙ q.2, q.3, omega (arith, q.4))))
     (λ no.
-      let sp = span_no is_ascii_uppercase (to_ascii_uppercase b) (capitals bs) no in
-      let v : letter_fold n (letters (b ∷ bs)) ≡ n = ap (letter_fold n) sp.0 in
-      (b ∷ bs, sym sp.1, ap (λ ls. within (Column (letter_fold n ls)) (b ∷ bs)) sp.0 ∙ h, sym (letter_upper b) ∙ no, omega arith))
+    let sp = span_no is_ascii_uppercase (to_ascii_uppercase b) (capitals bs) no in
+    let v : letter_fold n (letters (b ∷ bs)) ≡ n = ap (letter_fold n) sp.0 in
+    (b ∷ bs, sym sp.1, ap (λ ls. within (Column (letter_fold n ls)) (b ∷ bs)) sp.0 ∙ h, sym (letter_upper b) ∙ no, omega arith))
     (cases_Bool (is_ascii_uppercase (to_ascii_uppercase b)))
 
 -- ---- the `$` of a row
@@ -276,12 +277,12 @@ unfolding mark_at progress_within
 row_forth_from n row [] h = let f = number_forth [] row h in cc
 row_forth_from n row (b ∷ bs) h = ⊎_elim
     (λ m.
-      let f = number_forth bs row (ap (λ y. number_at 1048576 y.1) (sym (mark_yes b bs m)) ∙ h) in
-      ap (option_and_then (λ t. within t bs)) (mark_within n b m) ∙ row_mark bs f.0 f.1 f.2 ∙ f.4)
+    let f = number_forth bs row (ap (λ y. number_at 1048576 y.1) (sym (mark_yes b bs m)) ∙ h) in
+    ap (option_and_then (λ t. within t bs)) (mark_within n b m) ∙ row_mark bs f.0 f.1 f.2 ∙ f.4)
     (λ no.
-      let f = number_forth (b ∷ bs) row (ap (λ y. number_at 1048576 y.1) (sym (mark_no b bs no)) ∙ h) in
-      let same : b ≡ f.0 = cc (f.2) in
-      ap (option_and_then (λ t. within t bs)) (digit_within n b (ap is_ascii_digit same ∙ f.3)) ∙ f.4)
+    let f = number_forth (b ∷ bs) row (ap (λ y. number_at 1048576 y.1) (sym (mark_no b bs no)) ∙ h) in
+    let same : b ≡ f.0 = cc (f.2) in
+    ap (option_and_then (λ t. within t bs)) (digit_within n b (ap is_ascii_digit same ∙ f.3)) ∙ f.4)
     (cases_Bool (eqb b 36))
 
 row_mark_back : (w : List ℕ) (row : ℕ) → within RowMark w ≡ Some (Row row) → number_at 1048576 (capitals w) ≡ Some (row, [])
@@ -297,10 +298,10 @@ row_back_from n row [] none h = cc
 row_back_from n row (b ∷ bs) none h = ⊎_elim
     (λ m. ap (λ y. number_at 1048576 y.1) (mark_yes b bs m) ∙ row_mark_back bs row (ap (option_and_then (λ t. within t bs)) (sym (mark_within n b m)) ∙ h))
     (λ no. ap (λ y. number_at 1048576 y.1) (mark_no b bs no) ∙ ⊎_elim
-      (λ d. (number_back b bs row (ap (option_and_then (λ t. within t bs)) (sym (digit_within n b d)) ∙ h)).1)
-      (λ other. let e : progress_within (Column n) b ≡ None = cond-false _ _ _ no ∙ cond-false _ _ _ other ∙ no_column n b none in
-        let dead : None ≡ Some (Row row) = ap (option_and_then (λ t. within t bs)) (sym e) ∙ h in cc)
-      (cases_Bool (is_ascii_digit b)))
+    (λ d. (number_back b bs row (ap (option_and_then (λ t. within t bs)) (sym (digit_within n b d)) ∙ h)).1)
+    (λ other. let e : progress_within (Column n) b ≡ None = cond-false _ _ _ no ∙ cond-false _ _ _ other ∙ no_column n b none in
+    let dead : None ≡ Some (Row row) = ap (option_and_then (λ t. within t bs)) (sym e) ∙ h in cc)
+    (cases_Bool (is_ascii_digit b)))
     (cases_Bool (eqb b 36))
 
 -- ---- at most three letters
@@ -308,9 +309,9 @@ few_none : (n : ℕ) (u : List ℕ) → 703 ≤ n → letter_fold n (take_while 
 few_none n [] low high = omega arith
 few_none n (b ∷ bs) low high = ⊎_elim
     (λ l. let s = span_yes is_ascii_uppercase b bs l in
-      let v : letter_fold n (take_while is_ascii_uppercase (b ∷ bs)) ≡ letter_fold (26 * n + (b - 64)) (take_while is_ascii_uppercase bs) = ap (letter_fold n) s.0 in
-      let grows = column_grows (26 * n + (b - 64)) (take_while is_ascii_uppercase bs) in
-      absurd (omega arith))
+    let v : letter_fold n (take_while is_ascii_uppercase (b ∷ bs)) ≡ letter_fold (26 * n + (b - 64)) (take_while is_ascii_uppercase bs) = ap (letter_fold n) s.0 in
+    let grows = column_grows (26 * n + (b - 64)) (take_while is_ascii_uppercase bs) in
+    absurd (omega arith))
     (λ no. let s = span_no is_ascii_uppercase b bs no in omega (arith, ap length s.0))
     (cases_Bool (is_ascii_uppercase b))
 
@@ -321,10 +322,10 @@ few_step : (low k : ℕ) → ((m : ℕ) (u : List ℕ) → 26 * low + 1 ≤ m �
 few_step low k more n [] at_least high = omega arith
 few_step low k more n (b ∷ bs) at_least high = ⊎_elim
     (λ l. let s = span_yes is_ascii_uppercase b bs l in
-      let v : letter_fold n (take_while is_ascii_uppercase (b ∷ bs)) ≡ letter_fold (26 * n + (b - 64)) (take_while is_ascii_uppercase bs) = ap (letter_fold n) s.0 in
-      let q = more (26 * n + (b - 64)) bs (omega (arith, uppercase_value b l)) (omega arith) in
-      let len : length (take_while is_ascii_uppercase (b ∷ bs)) ≡ length (b ∷ take_while is_ascii_uppercase bs) = ap length s.0 in
-      omega arith)
+    let v : letter_fold n (take_while is_ascii_uppercase (b ∷ bs)) ≡ letter_fold (26 * n + (b - 64)) (take_while is_ascii_uppercase bs) = ap (letter_fold n) s.0 in
+    let q = more (26 * n + (b - 64)) bs (omega (arith, uppercase_value b l)) (omega arith) in
+    let len : length (take_while is_ascii_uppercase (b ∷ bs)) ≡ length (b ∷ take_while is_ascii_uppercase bs) = ap length s.0 in
+    omega arith)
     (λ no. let s = span_no is_ascii_uppercase b bs no in omega (arith, ap length s.0))
     (cases_Bool (is_ascii_uppercase b))
 
@@ -448,9 +449,9 @@ unfolding progress_within
 number_stays [] s h = (sym (same_Some _ _ h), refl)
 number_stays (b ∷ bs) s h =
     option_and_then_some (λ t. within t bs) (progress_within Number b) s h (λ t step rest.
-      let p = cond_some _ _ _ step in
-      let q = number_stays bs s (ap (λ x. within x bs) p.1 ∙ rest) in
-      (q.0, and_from _ _ p.0 q.1))
+    let p = cond_some _ _ _ step in
+    let q = number_stays bs s (ap (λ x. within x bs) p.1 ∙ rest) in
+    (q.0, and_from _ _ p.0 q.1))
 
 -- a column that begins with the byte c
 column_back_at : (c : ℕ) (cs : List ℕ) (t : Progress) (row : ℕ) → column_after 0 c ≡ Some t → within t cs ≡ Some (Row row) → (column : ℕ × List ℕ) × (column_at (capitals (c ∷ cs)) ≡ Some column) × (number_at 1048576 (mark_at column.1).1 ≡ Some (row, [])) × (length (letters (c ∷ cs)) ≤ 3)
@@ -489,19 +490,19 @@ unfolding progress_within
 reference_back [] row h = cc
 reference_back (b ∷ bs) row h = ⊎_elim
     (λ d.
-      let e : within Number bs ≡ Some (Row row) = ap (option_and_then (λ t. within t bs)) (sym (cond-true _ _ _ d)) ∙ h in
-      let q = number_stays bs (Row row) e in cc)
+    let e : within Number bs ≡ Some (Row row) = ap (option_and_then (λ t. within t bs)) (sym (cond-true _ _ _ d)) ∙ h in
+    let q = number_stays bs (Row row) e in cc)
     (λ other. ⊎_elim
-      (λ m.
-        let e : within ColumnMark bs ≡ Some (Row row) = ap (option_and_then (λ t. within t bs)) (sym (dollar_within b m)) ∙ h in
-        let q = mark_back_from bs row e in
-        let mark = mark_yes b bs m in
-        reference_from (capitals (b ∷ bs)) q.0 row (dollar_no_sheet b bs m) (ap (λ y. column_at y.1) mark ∙ q.1) q.2)
-      (λ no.
-        let e : progress_within TermStart b ≡ column_after 0 b = cond-false _ _ _ other ∙ cond-false _ _ _ no in
-        option_and_then_some (λ t. within t bs) (column_after 0 b) (Row row) (ap (option_and_then (λ t. within t bs)) (sym e) ∙ h) (λ t step rest.
-          let q = column_back_at b bs t row step rest in
-          let mark = mark_no b bs no in
-          reference_from (capitals (b ∷ bs)) q.0 row (no_sheet_word (b ∷ bs) q.3) (ap (λ y. column_at y.1) mark ∙ q.1) q.2))
-      (cases_Bool (eqb b 36)))
+    (λ m.
+    let e : within ColumnMark bs ≡ Some (Row row) = ap (option_and_then (λ t. within t bs)) (sym (dollar_within b m)) ∙ h in
+    let q = mark_back_from bs row e in
+    let mark = mark_yes b bs m in
+    reference_from (capitals (b ∷ bs)) q.0 row (dollar_no_sheet b bs m) (ap (λ y. column_at y.1) mark ∙ q.1) q.2)
+    (λ no.
+    let e : progress_within TermStart b ≡ column_after 0 b = cond-false _ _ _ other ∙ cond-false _ _ _ no in
+    option_and_then_some (λ t. within t bs) (column_after 0 b) (Row row) (ap (option_and_then (λ t. within t bs)) (sym e) ∙ h) (λ t step rest.
+    let q = column_back_at b bs t row step rest in
+    let mark = mark_no b bs no in
+    reference_from (capitals (b ∷ bs)) q.0 row (no_sheet_word (b ∷ bs) q.3) (ap (λ y. column_at y.1) mark ∙ q.1) q.2))
+    (cases_Bool (eqb b 36)))
     (cases_Bool (is_ascii_digit b))

@@ -1,17 +1,16 @@
 -- What a reader of sums has read, piece by piece.
-use Rattle.std.proofs.Common.{◌≡◌, ℕ, ◌+◌, ◌-◌, ◌<◌, ◌≤◌, zero, suc, Bool, true, false, not, cond, ◌&&◌, eqb, List, [], ◌∷◌, ◌++◌, length, take, drop, get_or, All, Option, Some, None, Result, Ok, Err, option_and_then, option_map, is_some, refl, sym, ap, ◌∙◌, subst, arith, ⊎_elim, ◌⊎◌, inl, inr, append_assoc, append-nil, add-one, drop-cons, length-append, length-drop, drop_of_length-le}
-use Rattle.std.specs.List.{list_all, slice_split, onto_first, join_with_byte}
+use Rattle.std.proofs.Common.{◌≡◌, ℕ, ◌+◌, ◌-◌, ◌<◌, ◌≤◌, zero, suc, Bool, true, false, not, cond, ◌&&◌, eqb, List, [], ◌∷◌, ◌++◌, length, drop, get_or, All, Option, Some, None, Ok, Err, option_and_then, option_map, refl, sym, ap, ◌∙◌, subst, arith, ⊎_elim, ◌⊎◌, inl, inr, append_assoc, append-nil, add-one, drop-cons, length-append, length-drop, drop_of_length-le}
+use Rattle.std.specs.List.{list_all, onto_first, join_with_byte}
 use Rattle.std.specs.Option.{option_map_or}
 use Rattle.std.proofs.lemmas.Bool.{and_parts, and_from, and_left, and_right, not_from_false, not-true, cases_Bool, cond-true, cond-false}
 use Rattle.std.proofs.lemmas.Option.{option_and_then_some, same_Some}
 use Rattle.std.proofs.lemmas.List.Elements.{All-nil, All-push}
-use Rattle.std.proofs.lemmas.List.Splits.{join_with_byte-slice_split, length-slice_split, slice_split-cons_yes, slice_split-cons_no}
+use Rattle.std.proofs.lemmas.List.Splits.{join_with_byte-slice_split, slice_split-cons_yes, slice_split-cons_no}
 use Rattle.formula_parse.specs.declared.trees.Term.{Term}
-use Rattle.formula_parse.specs.declared.faults.ParseFault.{ParseFault}
 use Rattle.formula_parse.specs.declared.faults.ParseFault.TheVariants as faults
 use Rattle.formula_parse.specs.declared.terms.TermFault.TheVariants.{NoTerm, TooLarge}
 use Rattle.formula_parse.specs.declared.viability.Progress.{Progress}
-use Rattle.formula_parse.specs.declared.viability.Progress.TheVariants.{FormulaStart, TermStart, Number, ColumnMark, Column, RowMark, Row}
+use Rattle.formula_parse.specs.declared.viability.Progress.TheVariants.{TermStart}
 use Rattle.formula_parse.specs.Grammar.{IsTerm, IsSum, is_within_limit, term_of, terms_of, pieces_of}
 use Rattle.formula_parse.specs.Progress.{progress_after, progress_within, is_whole, viable_len}
 use Rattle.formula_parse.specs.Reading.{term_within, terms_behind, sum_read}
@@ -60,8 +59,8 @@ lives_on s [] e rest free h = ap (λ x. viable_len x rest) (same_Some _ _ h) ∙
 lives_on s (b ∷ bs) e rest free h =
     let f = and_parts (not (eqb b 43)) (is_free bs) free in
     option_and_then_some (λ t. within t bs) (progress_within s b) e h (λ t step more.
-      let q = lives_on t bs e rest f.1 more in
-      ap (len_by (bs ++ rest)) (after_within s b f.0 ∙ step) ∙ omega arith)
+    let q = lives_on t bs e rest f.1 more in
+    ap (len_by (bs ++ rest)) (after_within s b f.0 ∙ step) ∙ omega arith)
 
 -- a piece that dies within does so whatever follows it
 dies_within : (s : Progress) (p rest : List ℕ) → is_free p ≡ true → within s p ≡ None → viable_len s (p ++ rest) ≡ viable_len s p
@@ -71,9 +70,9 @@ dies_within s (b ∷ bs) rest free h =
     ⊎_elim
     (λ none. let e = after_within s b f.0 ∙ none in ap (len_by (bs ++ rest)) e ∙ sym (ap (len_by bs) e))
     (λ some.
-      let e = after_within s b f.0 ∙ some.1 in
-      let q = dies_within some.0 bs rest f.1 (ap (option_and_then (λ t. within t bs)) (sym some.1) ∙ h) in
-      ap (len_by (bs ++ rest)) e ∙ ap (λ n. n + 1) q ∙ sym (ap (len_by bs) e))
+    let e = after_within s b f.0 ∙ some.1 in
+    let q = dies_within some.0 bs rest f.1 (ap (option_and_then (λ t. within t bs)) (sym some.1) ∙ h) in
+    ap (len_by (bs ++ rest)) e ∙ ap (λ n. n + 1) q ∙ sym (ap (len_by bs) e))
     (cases_option (progress_within s b))
 
 -- what follows a piece: nothing, or a `+`
@@ -92,14 +91,14 @@ no_term : (p rest : List ℕ) → is_free p ≡ true → term_of p ≡ None → 
 no_term p rest free none follows = ⊎_elim
     (λ dead. dies_within TermStart p rest free dead)
     (λ some. ⊎_elim
-      (λ w. let t = term_from_run p some.0 some.1 w in let e : None ≡ Some t.0 = sym none ∙ term_of_is p t.0 t.1 in cc)
-      (λ w.
-        let here = no_plus_here some.0 rest w follows in
-        let long = lives_on TermStart p some.0 rest free some.1 in
-        let short : viable_len TermStart (p ++ []) ≡ length p + 0 = lives_on TermStart p some.0 [] free some.1 in
-        let same : viable_len TermStart p ≡ viable_len TermStart (p ++ []) = ap (viable_len TermStart) (sym (append-nil p)) in
-        omega arith)
-      (cases_Bool (is_whole some.0)))
+    (λ w. let t = term_from_run p some.0 some.1 w in let e : None ≡ Some t.0 = sym none ∙ term_of_is p t.0 t.1 in cc)
+    (λ w.
+    let here = no_plus_here some.0 rest w follows in
+    let long = lives_on TermStart p some.0 rest free some.1 in
+    let short : viable_len TermStart (p ++ []) ≡ length p + 0 = lives_on TermStart p some.0 [] free some.1 in
+    let same : viable_len TermStart p ≡ viable_len TermStart (p ++ []) = ap (viable_len TermStart) (sym (append-nil p)) in
+    omega arith)
+    (cases_Bool (is_whole some.0)))
     (cases_option (within TermStart p))
 
 -- a term, and what follows its `+`
@@ -261,7 +260,7 @@ some_terms : (sum : List ℕ) (o : Option (List Term)) (ts : List Term) → o �
 some_terms sum None ts is h = cc
 some_terms sum (Some us) ts is h = ⊎_elim
     (λ w. let e : Ok us ≡ Ok ts = sym (cond-true _ _ _ w) ∙ h in let same : us ≡ ts = cc (e) in
-      subst (λ x. 0 < length x) same (longer us (sum_from_pieces sum us (sym is))))
+    subst (λ x. 0 < length x) same (longer us (sum_from_pieces sum us (sym is))))
     (λ w. let e = sym (cond-false _ _ _ w) ∙ h in cc)
     (cases_Bool (list_all is_within_limit us))
   where

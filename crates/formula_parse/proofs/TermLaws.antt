@@ -1,14 +1,13 @@
 -- A term is read byte for byte.
-use Rattle.std.proofs.Common.{◌≡◌, ℕ, ◌+◌, ◌-◌, ◌<◌, ◌≤◌, Bool, true, false, cond, ◌&&◌, eqb, List, [], ◌∷◌, ◌++◌, length, All, Option, Some, None, option_and_then, option_map, is_none, refl, sym, ap, ◌∙◌, arith, ltb-true, lt-ltb, eq-eqb, eqb-true, ⊎_elim, pos, subst}
-use Rattle.std.specs.Char.{is_ascii_digit, is_ascii_alphabetic, to_ascii_uppercase}
+use Rattle.std.proofs.Common.{◌≡◌, ℕ, ◌-◌, Bool, true, false, eqb, List, [], ◌∷◌, length, All, Option, Some, None, option_and_then, option_map, is_none, refl, sym, ap, ◌∙◌, arith, lt-ltb, eq-eqb, eqb-true, ⊎_elim, pos, subst}
+use Rattle.std.specs.Char.{is_ascii_digit}
 use Rattle.std.specs.List.{list_all}
-use Rattle.std.specs.Str.Parse.{IsNumeral, digits_value}
-use Rattle.std.proofs.lemmas.Bool.Decides.{nat_tests}
+use Rattle.std.specs.Str.Parse.{digits_value}
 use Rattle.std.proofs.lemmas.Bool.{and_parts, and_from, cases_Bool, cond-true, cond-false}
 use Rattle.std.proofs.lemmas.Option.{cond_some, option_and_then_some, same_Some}
 use Rattle.std.proofs.lemmas.List.Elements.{All-nil, All-cons}
 use Rattle.cell_refs.specs.declared.references.RefText.{RefText}
-use Rattle.cell_refs.specs.Reading.{reference_in, sheet_at, mark_at, column_at, number_at}
+use Rattle.cell_refs.specs.Reading.{reference_in, sheet_at, mark_at, column_at}
 use Rattle.cell_refs.specs.Written.{capitals, reference_at}
 use Rattle.formula_parse.specs.declared.trees.Term.{Term}
 use Rattle.formula_parse.specs.declared.trees.Term.TheVariants as terms
@@ -97,9 +96,9 @@ reference_goes_on ColumnMark b t e h = column_is 0 b t h
 reference_goes_on (Column n) b t e h = ⊎_elim
     (λ m. sym (ap is_reference (same_Some _ _ (sym (cond-true _ _ _ m) ∙ h))))
     (λ no. ⊎_elim
-      (λ d. row_is 0 b t (sym (cond-false _ _ _ no ∙ cond-true _ _ _ d) ∙ h))
-      (λ other. column_is n b t (sym (cond-false _ _ _ no ∙ cond-false _ _ _ other) ∙ h))
-      (cases_Bool (is_ascii_digit b)))
+    (λ d. row_is 0 b t (sym (cond-false _ _ _ no ∙ cond-true _ _ _ d) ∙ h))
+    (λ other. column_is n b t (sym (cond-false _ _ _ no ∙ cond-false _ _ _ other) ∙ h))
+    (cases_Bool (is_ascii_digit b)))
     (cases_Bool (eqb b 36))
 reference_goes_on RowMark b t e h = row_is 0 b t h
 reference_goes_on (Row n) b t e h = row_is n b t h
@@ -122,12 +121,12 @@ unfolding progress_within
 numeral_from_run [] h = cc
 numeral_from_run (b ∷ bs) h = ⊎_elim
     (λ d.
-      let e : within Number bs ≡ Some Number = ap (option_and_then (λ t. within t bs)) (sym (cond-true _ _ _ d)) ∙ h in
-      let q = number_stays bs Number e in
-      and_from _ _ (lt-ltb 0 (length (b ∷ bs)) (omega arith)) (and_from _ _ d q.1))
+    let e : within Number bs ≡ Some Number = ap (option_and_then (λ t. within t bs)) (sym (cond-true _ _ _ d)) ∙ h in
+    let q = number_stays bs Number e in
+    and_from _ _ (lt-ltb 0 (length (b ∷ bs)) (omega arith)) (and_from _ _ d q.1))
     (λ other.
-      option_and_then_some (λ t. within t bs) (progress_within TermStart b) Number h (λ t step rest.
-        let r = reference_stays t bs Number (reference_begins b t other step) rest in cc))
+    option_and_then_some (λ t. within t bs) (progress_within TermStart b) Number h (λ t step rest.
+    let r = reference_stays t bs Number (reference_begins b t other step) rest in cc))
     (cases_Bool (is_ascii_digit b))
 
 -- the bytes that lead to a whole term write one
@@ -162,8 +161,8 @@ pub term_of_from : (p : List ℕ) (t : Term) → term_of p ≡ Some t → IsTerm
 term_of_from p t h = ⊎_elim
     (λ n. subst (IsTerm p) (same_Some _ _ (sym (cond-true _ _ _ n) ∙ h)) (numeral_is p n, refl))
     (λ other.
-      let q = whole_some p (reference_at p) t (sym (cond-false _ _ _ other) ∙ h) in
-      subst (IsTerm p) q.3 (q.1, q.2))
+    let q = whole_some p (reference_at p) t (sym (cond-false _ _ _ other) ∙ h) in
+    subst (IsTerm p) q.3 (q.1, q.2))
     (cases_Bool (is_numeral p))
 
 -- ---- no `+` stands in a term
@@ -187,4 +186,4 @@ pub plus_free : (s : Progress) (p : List ℕ) (e : Progress) → within s p ≡ 
 plus_free s [] e h = All-nil _
 plus_free s (b ∷ bs) e h =
     option_and_then_some (λ t. within t bs) (progress_within s b) e h (λ t step rest.
-      All-cons (λ b. eqb b 43 ≡ false) b bs (no_plus s b t step) (plus_free t bs e rest))
+    All-cons (λ b. eqb b 43 ≡ false) b bs (no_plus s b t step) (plus_free t bs e rest))

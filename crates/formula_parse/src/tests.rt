@@ -30,7 +30,11 @@ fn a_formula_lists_its_terms(rt: HostRuntime) -> Result<(), Fail> {
         assert_eq!(rt; tree.terms(), [term].as_slice(), "in {text}");
     }
     let tree = parse(rt.alloc(), "=1+$B2+30")?.copy()?;
-    let terms = [Term::Number(1), reference(true, 2, false, 2), Term::Number(30)];
+    let terms = [
+        Term::Number(1),
+        reference(true, 2, false, 2),
+        Term::Number(30),
+    ];
     assert_eq!(rt; tree.terms(), terms.as_slice());
     Ok(())
 }
@@ -73,12 +77,18 @@ fn a_formula_has_at_most_8192_characters(rt: HostRuntime) -> Result<(), Fail> {
     }
     assert_eq!(rt; parse(rt.alloc(), text.as_str())?.terms().len(), 4_096);
     text.push_str("1")?;
-    assert_eq!(rt; parse(rt.alloc(), text.as_str()).err(), Some(ParseFault::TooLong));
+    assert_eq!(rt;
+        parse(rt.alloc(), text.as_str()).err(),
+        Some(ParseFault::TooLong)
+    );
 
     let mut text = "=".to_string(rt.alloc())?;
     for _ in 0..8_191 {
         text.push_str("\u{e9}")?;
     }
-    assert_eq!(rt; parse(rt.alloc(), text.as_str()).err(), Some(ParseFault::Syntax(1)));
+    assert_eq!(rt;
+        parse(rt.alloc(), text.as_str()).err(),
+        Some(ParseFault::Syntax(1))
+    );
     Ok(())
 }

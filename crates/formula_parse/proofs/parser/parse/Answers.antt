@@ -1,5 +1,5 @@
 use Rattle.std.proofs.Common.{sym, ◌∙◌}
-use Rattle.formula_parse.proofs.ParseLaws.{Gives, short_gives, ok_clause, long_clause, syntax_clause, number_clause}
+use Rattle.formula_parse.proofs.ParseLaws.{short_gives, ok_clause, long_clause, syntax_clause, number_clause}
 use Rattle.formula_parse.proofs.parser.parse.Goals as goal
 
 pub returns : goal.returns

@@ -1,10 +1,10 @@
-use Rattle.std.proofs.Common.{◌≡◌, ℕ, ◌+◌, ◌-◌, ◌<◌, ◌≤◌, drop, length, get_or, List, ◌∷◌, [], arith, lit<, inl, inr, ap, sym, subst, ◌∙◌, Ok, Err}
+use Rattle.std.proofs.Common.{◌≡◌, ◌+◌, length, arith, lit<, inr, ap, sym, subst, ◌∙◌, Ok, Err}
 use Rattle.std.proofs.lemmas.Iterator.Splits.{YieldsList-from_str_split}
 use Rattle.std.proofs.lemmas.Iterator.Consumers.{YieldsList-at, YieldsList-turn, YieldsList-end}
 use Rattle.std.proofs.lemmas.List.{length_push}
 use Rattle.formula_parse.specs.Grammar.{term_of}
 use Rattle.formula_parse.specs.Progress.{viable_len}
-use Rattle.formula_parse.specs.Reading.{term_within, sum_read}
+use Rattle.formula_parse.specs.Reading.{term_within}
 use Rattle.formula_parse.specs.declared.terms.TermFault.TheVariants.{NoTerm, TooLarge}
 use Rattle.formula_parse.specs.declared.viability.Progress.TheVariants.{TermStart}
 use Rattle.formula_parse.specs.declared.faults.ParseFault.TheVariants as faults
@@ -63,12 +63,13 @@ loop-piece-preserved c =
     let at = YieldsList-turn road c.loop-piece.yielded _ c.loop-piece.yielded_by _ _ c.in-Some.piece c.in-Some.is c.next.ensures.steps in
     let pieces = turn sum piece n at.0 at.1 in
     elim c.match-read_term.branch [
-      in-Ok+in_ok-push-in-Ok w ↦ 
-      let ok : term_within (term_of piece) ≡ Ok w.in-Ok.term = sym c.read_term.ensures.value ∙ w.in-Ok.is in
-      (tt, tt, rw (length_push c.loop-piece.yielded c.in-Some.piece, w.is_over-is, w.terms-is, w.in_ok-push-in-Ok.ensures.items) (reads_ok sum piece n c.loop-piece.place c.loop-piece.is_over c.loop-piece.terms.items w.in-Ok.term read at.0 pieces ok w.in-Ok.ensures.kept))
-    | in-Err-TooLarge w ↦
-      let large : term_within (term_of piece) ≡ Err TooLarge = sym c.read_term.ensures.value ∙ (w.in-Err-TooLarge.is ∙ ap (λ x. Err x) w.in-Err-TooLarge.field-0-is) in
-      (tt, tt, rw (length_push c.loop-piece.yielded c.in-Some.piece, w.is_over-is, w.terms-is) (reads_large sum piece n c.loop-piece.place c.loop-piece.is_over c.loop-piece.terms.items read at.0 pieces large)) ]
+      | in-Ok+in_ok-push-in-Ok w ↦
+          let ok : term_within (term_of piece) ≡ Ok w.in-Ok.term = sym c.read_term.ensures.value ∙ w.in-Ok.is in
+          (tt, tt, rw (length_push c.loop-piece.yielded c.in-Some.piece, w.is_over-is, w.terms-is, w.in_ok-push-in-Ok.ensures.items) (reads_ok sum piece n c.loop-piece.place c.loop-piece.is_over c.loop-piece.terms.items w.in-Ok.term read at.0 pieces ok w.in-Ok.ensures.kept))
+      | in-Err-TooLarge w ↦
+          let large : term_within (term_of piece) ≡ Err TooLarge = sym c.read_term.ensures.value ∙ (w.in-Err-TooLarge.is ∙ ap (λ x. Err x) w.in-Err-TooLarge.field-0-is) in
+          (tt, tt, rw (length_push c.loop-piece.yielded c.in-Some.piece, w.is_over-is, w.terms-is) (reads_large sum piece n c.loop-piece.place c.loop-piece.is_over c.loop-piece.terms.items read at.0 pieces large))
+    ]
 
 pub returns-then-is_over : goal.returns-then-is_over
 returns-then-is_over c =
