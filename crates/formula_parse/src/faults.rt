@@ -1,3 +1,5 @@
+use std::alloc::{AllocError, AllocFailed};
+
 /// Why a text was not parsed.
 #[derive(Clone, Copy, Debug, PartialEq, Eq)]
 pub enum ParseFault {
@@ -14,4 +16,26 @@ pub enum ParseFault {
     BadRange,
     /// A number is over 999,999,999,999,999.
     NumberTooLarge,
+}
+
+impl From<AllocError> for ParseFault {
+    ghost use Rattle.std.specs.Prelude.{◌≡◌};
+    ghost use Rattle.formula_parse.specs.declared.faults.ParseFault.TheVariants.{Memory};
+
+    ghost from_gives = { λ _ fault. fault ≡ Memory };
+
+    fn from(_: AllocError) -> Self {
+        ParseFault::Memory
+    }
+}
+
+impl<T: Drop> From<AllocFailed<T>> for ParseFault {
+    ghost use Rattle.std.specs.Prelude.{◌≡◌};
+    ghost use Rattle.formula_parse.specs.declared.faults.ParseFault.TheVariants.{Memory};
+
+    ghost from_gives = { λ _ fault. fault ≡ Memory };
+
+    fn from(_: AllocFailed<T>) -> Self {
+        ParseFault::Memory
+    }
 }

@@ -1,11 +1,15 @@
-ghost use Rattle.std.specs.Prelude.{◌≡◌, ◌⊎◌, ◌↔◌, ◌<◌, ℕ, length, IfOk};
+ghost use Rattle.std.specs.Prelude.{◌≡◌, ◌⊎◌, ◌↔◌, ◌<◌, ℕ, length, IfOk, IsTrue};
 ghost use Rattle.std.specs.Str.{chars};
-ghost use Rattle.formula_parse.specs.Grammar.{IsFormula};
-ghost use Rattle.formula_parse.specs.Parsed.{IsSyntaxFault, IsNumberFault, parsed};
+ghost use Rattle.formula_parse.specs.Grammar.{IsFormula, is_too_long, unlimited_formula_of};
+ghost use Rattle.formula_parse.specs.Parsed.{IsSyntaxFault, IsNumberFault, judged, parsed};
 
 use super::faults::ParseFault;
+use super::sums::read_sum;
 use super::trees::Tree;
 use std::alloc::Global;
+
+/// The greatest number of characters of a formula.
+const CHARACTERS: usize = 8_192;
 
 /// The tree of the formula that the text is.
 pub fn parse(alloc: Global, text: &str) -> Result<Tree, ParseFault>
@@ -17,7 +21,24 @@ pub fn parse(alloc: Global, text: &str) -> Result<Tree, ParseFault>
     // Which of these it is, unless memory runs out.
     ensures exact { (result ≡ Err ParseFault.Memory) ⊎ (result ≡ parsed text.now) }
 {
-    let _ = alloc;
-    let _ = text;
-    Err(ParseFault::Memory)
+    if has_too_many_characters(text) {
+        return Err(ParseFault::TooLong);
+    }
+    read_formula(alloc, text)
+}
+
+fn has_too_many_characters(text: &str) -> bool
+    ensures { result ≡ is_too_long text.now }
+{
+    text.chars().count() > CHARACTERS
+}
+
+/// The tree of the formula, whatever its length.
+fn read_formula(alloc: Global, text: &str) -> Result<Tree, ParseFault>
+    ensures { (result ≡ Err ParseFault.Memory) ⊎ (result ≡ judged text.now (unlimited_formula_of text.now)) }
+{
+    match text.strip_prefix('=') {
+        Some(sum) => read_sum(alloc, sum),
+        None => Err(ParseFault::Syntax(0)),
+    }
 }

@@ -1,6 +1,7 @@
-ghost use Rattle.std.specs.Prelude.{◌≡◌, true};
+ghost use Rattle.std.specs.Prelude.{◌≡◌, true, IfOk, IfSome};
 ghost use Rattle.formula_parse.specs.Grammar.{is_numeral, term_of, whole_reference};
 ghost use Rattle.formula_parse.specs.Reading.{term_within};
+ghost use Rattle.formula_parse.specs.Tree.{IsKept};
 ghost use Rattle.cell_refs.specs.Written.{reference_at};
 
 use super::trees::Term;
@@ -18,7 +19,8 @@ pub(crate) enum TermFault {
 
 /// The term that a piece of text between two `+` writes.
 pub(crate) fn read_term(piece: &str) -> Result<Term, TermFault>
-    ensures { result ≡ term_within (term_of piece.now) }
+    ensures value { result ≡ term_within (term_of piece.now) }
+    ensures kept { IfOk result IsKept }
 {
     if is_numeral(piece) {
         read_number(piece)
@@ -35,17 +37,20 @@ fn is_numeral(piece: &str) -> bool
 
 fn read_number(digits: &str) -> Result<Term, TermFault>
     requires { is_numeral digits.now ≡ true }
-    ensures { result ≡ term_within (term_of digits.now) }
+    ensures value { result ≡ term_within (term_of digits.now) }
+    ensures kept { IfOk result IsKept }
 {
     match digits.parse::<u64>() {
         Ok(number) if number <= GREATEST => Ok(Term::Number(number as i64)),
-        _ => Err(TermFault::TooLarge),
+        Ok(_) => Err(TermFault::TooLarge),
+        Err(_) => Err(TermFault::TooLarge),
     }
 }
 
 /// The reference that is the whole piece and names no sheet.
 fn read_whole_reference(piece: &[u8]) -> Option<Term>
-    ensures { result ≡ whole_reference piece.now (reference_at piece.now) }
+    ensures value { result ≡ whole_reference piece.now (reference_at piece.now) }
+    ensures kept { IfSome result IsKept }
 {
     match read_ref(piece) {
         Some((reference, len)) if len == piece.len() && reference.sheet.is_none() => {

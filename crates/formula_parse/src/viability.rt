@@ -1,13 +1,13 @@
 ghost use Rattle.std.specs.Prelude.{◌≡◌, ◌+◌, ◌*◌, ◌^◌, ◌<◌};
-ghost use Rattle.formula_parse.specs.Progress.{progress_after, column_after, row_after, viable_len};
+ghost use Rattle.formula_parse.specs.Progress.{progress_after, progress_within, is_whole, column_after, row_after, viable_len};
 
 /// What the bytes so far have come to, where some formula begins with them.
 #[derive(Clone, Copy, Debug, PartialEq, Eq)]
 pub(crate) enum Progress {
     /// Nothing: a formula begins.
-    Formula,
+    FormulaStart,
     /// A term begins.
-    Term,
+    TermStart,
     /// Digits of a number.
     Number,
     /// The `$` of a column.
@@ -22,22 +22,38 @@ pub(crate) enum Progress {
 
 impl Progress {
     /// The progress with one more byte; None where no formula goes on so.
-    #[tactic(auto, unfolding(crate::specs::Progress::progress_after))]
     pub(crate) fn after(self, byte: u8) -> Option<Progress>
         ensures { result ≡ progress_after self byte }
     {
+        if byte == b'+' && self.is_whole() {
+            Some(Progress::TermStart)
+        } else {
+            self.within(byte)
+        }
+    }
+
+    /// Whether a whole term stands behind.
+    fn is_whole(self) -> bool
+        ensures { result ≡ is_whole self }
+    {
+        matches!(self, Progress::Number | Progress::Row(_))
+    }
+
+    /// The progress with one more byte of `=` or of the same term.
+    #[tactic(auto, unfolding(crate::specs::Progress::progress_within))]
+    fn within(self, byte: u8) -> Option<Progress>
+        ensures { result ≡ progress_within self byte }
+    {
         match self {
-            Progress::Formula => (byte == b'=').then_some(Progress::Term),
-            Progress::Term if byte.is_ascii_digit() => Some(Progress::Number),
-            Progress::Term if byte == b'$' => Some(Progress::ColumnMark),
-            Progress::Term | Progress::ColumnMark => after_letter(0, byte),
-            Progress::Number if byte.is_ascii_digit() => Some(Progress::Number),
-            Progress::Number => (byte == b'+').then_some(Progress::Term),
+            Progress::FormulaStart => (byte == b'=').then_some(Progress::TermStart),
+            Progress::TermStart if byte.is_ascii_digit() => Some(Progress::Number),
+            Progress::TermStart if byte == b'$' => Some(Progress::ColumnMark),
+            Progress::TermStart | Progress::ColumnMark => after_letter(0, byte),
+            Progress::Number => byte.is_ascii_digit().then_some(Progress::Number),
             Progress::Column(_) if byte == b'$' => Some(Progress::RowMark),
             Progress::Column(_) if byte.is_ascii_digit() => after_digit(0, byte),
             Progress::Column(column) => after_letter(column, byte),
             Progress::RowMark => after_digit(0, byte),
-            Progress::Row(_) if byte == b'+' => Some(Progress::Term),
             Progress::Row(row) => after_digit(row, byte),
         }
     }

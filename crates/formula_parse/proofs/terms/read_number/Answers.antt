@@ -1,7 +1,9 @@
-use Rattle.std.proofs.Common.{rules, ◌≡◌, true}
-use Rattle.formula_parse.specs.Grammar.{is_numeral, term_of, whole_reference}
-use Rattle.formula_parse.specs.Reading.{term_within}
+use Rattle.std.proofs.lemmas.Result.{OkIff-at_err}
+use Rattle.formula_parse.proofs.Numbers.{numeral_parses, numeral_parts, large, too_large}
 use Rattle.formula_parse.proofs.terms.read_number.Goals as goal
 
-pub returns-in_default-2 : goal.returns-in_default-2
-returns-in_default-2 c = let h = c.in_default in let p = c.parse.ensures.value in let r = c.requires in ?
+pub returns-in-Err-clause-value : goal.returns-in-Err-clause-value
+returns-in-Err-clause-value c =
+    let p = numeral_parses c.args.digits.now c.parse.result c.requires c.parse.ensures.value.0 in
+    let none = OkIff-at_err _ _ _ _ p c.in-Err.is in
+    too_large c.args.digits.now c.requires (large _ _ (numeral_parts c.args.digits.now c.requires).0 none)
