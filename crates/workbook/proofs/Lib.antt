@@ -6,3 +6,4 @@ pub mod Settling
 pub mod Walking
 pub mod Reaching
 pub mod Meanings
+pub mod Steps

@@ -1,5 +1,5 @@
 -- The book: the cells with content, in cell order.
-use Rattle.std.specs.Prelude.{ℕ, Bool, true, false, if◌then◌else◌, Option, None, Some, List, [], ◌∷◌}
+use Rattle.std.specs.Prelude.{◌≡◌, ℕ, Bool, true, false, if◌then◌else◌, Option, None, Some, List, [], ◌∷◌}
 use Rattle.std.specs.List.{count_by, filter}
 use Rattle.std.specs.Ordering.{is_lt}
 use Rattle.std.specs.Map.{lookup, keys_of}
@@ -18,6 +18,10 @@ IsInOrder book = IsStrictlySortedBy cell_cmp (keys_of book)
 abbrev pub content_at : List (Cell × Content) → Cell → Option Content
 content_at book cell = lookup (same_cell cell) book
 
+-- new has this content at the cell, and elsewhere what old has
+abbrev pub SetsContent : List (Cell × Content) → List (Cell × Content) → Cell → Content → Type 0
+SetsContent old new cell content = (q : Cell) → content_at new q ≡ (if same_cell cell q then Some content else content_at old q)
+
 -- whether a content is a formula
 abbrev pub has_formula : Option Content → Bool
 has_formula None = false
@@ -31,6 +35,10 @@ formula_weight content = if has_formula (Some content) then 1 else 0
 -- how many cells have a formula
 abbrev pub formula_count : List (Cell × Content) → ℕ
 formula_count book = count_by (λ e. has_formula (Some e.1)) book
+
+-- the cells with a formula, in cell order
+abbrev pub formula_cells : List (Cell × Content) → List Cell
+formula_cells book = keys_of (filter (λ e. has_formula (Some e.1)) book)
 
 -- whether a cell has a formula
 abbrev pub is_formula : List (Cell × Content) → Cell → Bool

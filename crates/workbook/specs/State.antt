@@ -1,5 +1,5 @@
 -- The state of the host, and what each command makes of it.
-use Rattle.std.specs.Prelude.{ℕ, ◌+◌, Bool, true, false, List, [], ◌∷◌}
+use Rattle.std.specs.Prelude.{ℕ, ◌+◌, Bool, true, false, if◌then◌else◌, List, [], ◌∷◌}
 use Rattle.std.specs.BTreeMap.{insert_entry}
 use Rattle.cell_refs.specs.declared.cells.Cell.{Cell}
 use Rattle.cell_refs.specs.Cell.{cell_cmp}
@@ -58,8 +58,8 @@ after_in_round s (commands.Print form) = s
 
 -- the reply to a command
 abbrev pub reply_to : State → Command → Reply
-reply_to s command = elim s.running [ true ↦ reply_in_round s command | false ↦ reply_at_rest s command ]
+reply_to s command = if s.running then reply_in_round s command else reply_at_rest s command
 
 -- the state after a command
 abbrev pub state_after : State → Command → State
-state_after s command = elim s.running [ true ↦ after_in_round s command | false ↦ after_at_rest s command ]
+state_after s command = if s.running then after_in_round s command else after_at_rest s command

@@ -42,7 +42,7 @@ impl Book {
     ghost use Rattle.std.specs.Prelude.{[], length, OnOk, IfErr, OnErr, option_copied, IfSome, IsNone, ◌↔◌};
     ghost use Rattle.std.specs.BTreeMap.{insert_entry};
     ghost use Rattle.cell_refs.specs.Cell.{cell_cmp};
-    ghost use Rattle.workbook.specs.Book.{content_at, formula_count, next_cell, IsInOrder};
+    ghost use Rattle.workbook.specs.Book.{content_at, formula_count, next_cell, IsInOrder, SetsContent};
     ghost use Rattle.workbook.specs.declared.books.SetFault.TheVariants as faults;
 
     /// An empty book.
@@ -82,7 +82,9 @@ impl Book {
     /// Gives the cell this content, in place of any that it has. A refusal gives the content back and changes nothing.
     pub fn set(&mut self, cell: Cell, content: Content) -> Result<(), SetFault>
         ensures ok { OnOk result (self.new ≡ insert_entry cell_cmp self.old cell content) }
+        ensures contents { OnOk result (SetsContent self.old self.new cell content) }
         ensures refused { OnErr result (self.new ≡ self.old) }
+        ensures ordered { IsInOrder self.old × IsInOrder self.new }
         ensures memory { IfErr result (λ fault. fault ≡ faults.Memory content) }
     {
         // As many formulas as cells at most, so their number fits.

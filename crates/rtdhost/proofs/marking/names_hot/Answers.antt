@@ -1,0 +1,1 @@
+use Rattle.rtdhost.proofs.marking.names_hot.Goals as goal

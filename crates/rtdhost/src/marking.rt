@@ -1,0 +1,151 @@
+//! Marks the stale cells in passes.
+
+ghost use Rattle.std.specs.Prelude.{◌≡◌, Ok, Err, IfOk, OnOk, true, false, if◌then◌else◌, [], ◌∷◌, ◌++◌};
+ghost use Rattle.std.specs.List.{list_any};
+ghost use Rattle.cell_refs.specs.declared.cells.Cell.{Cell};
+ghost use Rattle.formula_parse.specs.Tree.{precedents};
+ghost use Rattle.workbook.specs.Book.{IsInOrder, is_formula, formula_cells};
+ghost use Rattle.workbook.specs.Stale.{is_among, is_stale};
+ghost use Rattle.rtdhost.specs.Marking.{is_hot, is_touched, AreStale, KeepsMarks, MarksTouched, IsMarkedOrNew, AreFormulas};
+
+use std::alloc::Global;
+use std::collections::BTreeSet;
+
+use cell_refs::Cell;
+use cell_values::Memory;
+use formula_parse::Term;
+use workbook::{Book, Content};
+
+/// Whether a cell is changed or marked.
+fn is_hot(changed: &BTreeSet<Cell>, marks: &BTreeSet<Cell>, cell: Cell) -> bool
+    ensures { result ≡ is_hot changed.now.keys marks.now.keys cell }
+{
+    changed.contains(&cell) || marks.contains(&cell)
+}
+
+/// Whether one of the terms names a cell that is changed or marked.
+fn names_hot(changed: &BTreeSet<Cell>, marks: &BTreeSet<Cell>, terms: &[Term], home: u8) -> bool
+    ensures { result ≡ list_any (is_hot changed.now.keys marks.now.keys) (precedents terms.now home) }
+{
+    for term in terms {
+        if let Term::Reference(reference) = term {
+            if is_hot(changed, marks, reference.at(home)) {
+                return true;
+            }
+        }
+    }
+    false
+}
+
+/// Whether a cell is changed, or names a cell that is changed or marked.
+fn is_touched(book: &Book, changed: &BTreeSet<Cell>, marks: &BTreeSet<Cell>, cell: Cell) -> bool
+    ensures { result ≡ is_touched book.now changed.now.keys marks.now.keys cell }
+{
+    if changed.contains(&cell) {
+        return true;
+    }
+    match book.get(cell) {
+        Some(Content::Formula(tree)) => names_hot(changed, marks, tree.terms(), cell.sheet),
+        _ => false,
+    }
+}
+
+/// Marks the cell if it is touched, and answers whether it wasn't marked before.
+fn mark_touched(
+    book: &Book,
+    changed: &BTreeSet<Cell>,
+    cell: Cell,
+    marks: &mut BTreeSet<Cell>,
+) -> Result<bool, Memory>
+    ensures keeps { KeepsMarks marks.old.keys marks.new.keys }
+    ensures touched { OnOk result (is_touched book.now changed.now.keys marks.old.keys cell ≡ true
+        → is_among marks.new.keys cell ≡ true) }
+    ensures only { (other : Cell) → is_among marks.new.keys other ≡ true
+        → IsMarkedOrNew book.now changed.now.keys marks.old.keys cell other }
+    ensures idle { result ≡ Ok false → marks.new.keys ≡ marks.old.keys }
+{
+    if marks.contains(&cell) || !is_touched(book, changed, marks, cell) {
+        return Ok(false);
+    }
+    match marks.insert(cell) {
+        Ok(_) => Ok(true),
+        Err(_) => Err(Memory),
+    }
+}
+
+/// Marks each of the cells that is touched, and answers whether it marked one.
+fn mark_pass(
+    book: &Book,
+    changed: &BTreeSet<Cell>,
+    cells: &[Cell],
+    marks: &mut BTreeSet<Cell>,
+) -> Result<bool, Memory>
+    ensures keeps { KeepsMarks marks.old.keys marks.new.keys }
+    ensures touched { OnOk result (MarksTouched book.now changed.now.keys marks.old.keys cells.now marks.new.keys) }
+    ensures only_stale { OnOk result (IsInOrder book.now → AreFormulas book.now cells.now
+        → AreStale book.now changed.now.keys marks.old.keys → AreStale book.now changed.now.keys marks.new.keys) }
+    ensures idle { result ≡ Ok false → marks.new.keys ≡ marks.old.keys }
+{
+    let mut grew = false;
+    for cell in cells {
+        let marked = mark_touched(book, changed, *cell, marks)?;
+        grew |= marked;
+    }
+    Ok(grew)
+}
+
+/// The stale cells: of the formula cells, those from which a changed cell is reached.
+pub fn stale_cells(
+    alloc: Global,
+    book: &Book,
+    changed: &BTreeSet<Cell>,
+    formulas: &[Cell],
+) -> Result<BTreeSet<Cell>, Memory>
+    requires ordered { IsInOrder book.now }
+    requires formulas { formulas.now ≡ formula_cells book.now }
+    ensures { IfOk result (λ stale. (cell : Cell) → is_among stale.keys cell ≡ is_stale book.now changed.now.keys cell) }
+{
+    let mut marks = BTreeSet::new(alloc);
+    for _ in formulas {
+        if !mark_pass(book, changed, formulas, &mut marks)? {
+            return Ok(marks);
+        }
+    }
+    Ok(marks)
+}
+
+/// The cells with a formula, in cell order.
+pub fn formula_cells(alloc: Global, book: &Book) -> Result<Vec<Cell>, Memory>
+    ensures cells { IfOk result (λ cells. cells.items ≡ formula_cells book.now) }
+    ensures ordered { IsInOrder book.now }
+{
+    let mut cells = Vec::new(alloc);
+    let mut after = None;
+    while let Some(cell) = book.next_cell(after) {
+        push_formula(book, cell, &mut cells)?;
+        after = Some(cell);
+    }
+    Ok(cells)
+}
+
+/// Adds the cell to the list if it has a formula.
+fn push_formula(book: &Book, cell: Cell, cells: &mut Vec<Cell>) -> Result<(), Memory>
+    ensures { OnOk result (cells.new.items ≡ cells.old.items ++ (if is_formula book.now cell then cell ∷ [] else [])) }
+{
+    if !has_formula(book, cell) {
+        return Ok(());
+    }
+    match cells.push(cell) {
+        Ok(()) => Ok(()),
+        Err(_) => Err(Memory),
+    }
+}
+
+fn has_formula(book: &Book, cell: Cell) -> bool
+    ensures { result ≡ is_formula book.now cell }
+{
+    match book.get(cell) {
+        Some(content) => content.is_formula(),
+        None => false,
+    }
+}

@@ -1,0 +1,68 @@
+//! One recalculation: finds the stale cells, evaluates them and shows what came out.
+
+ghost use Rattle.std.specs.Prelude.{◌≡◌, IfOk, List, true};
+ghost use Rattle.std.specs.List.{count_by};
+ghost use Rattle.cell_refs.specs.declared.cells.Cell.{Cell};
+ghost use Rattle.workbook.specs.declared.contents.Content.{Content};
+ghost use Rattle.workbook.specs.Book.{IsInOrder, is_formula, formula_cells};
+ghost use Rattle.workbook.specs.Stale.{is_among, stale_count};
+ghost use Rattle.rtdhost.specs.Inputs.{ShowsOthers, IsEvaluated};
+ghost use Rattle.rtdhost.specs.Publishing.{ShowsMeaning};
+ghost use Rattle.rtdhost.specs.Recalculating.{KeepsOthers};
+
+use std::alloc::Global;
+use std::collections::{BTreeMap, BTreeSet};
+
+use cell_refs::Cell;
+use cell_values::{Memory, Value};
+use workbook::Book;
+
+use super::evaluating::{Sight, evaluate};
+use super::marking::{formula_cells, stale_cells};
+use super::publishing::{show_constants, show_stale};
+
+/// Brings the sheet up to date, and answers how many cells were stale, circular ones included.
+pub fn recalculate(
+    alloc: Global,
+    book: &Book,
+    changed: &BTreeSet<Cell>,
+    sheet: &mut BTreeMap<Cell, Option<Value>>,
+) -> Result<u64, Memory>
+    ensures shows { IfOk result (λ count. (before : List (Cell × Content)) → IsInOrder before
+        → ((cell : Cell) → ShowsMeaning before sheet.old.entries cell) → KeepsOthers changed.now.keys before book.now
+        → (cell : Cell) → ShowsMeaning book.now sheet.new.entries cell) }
+    ensures count { IfOk result (λ count. count ≡ stale_count book.now changed.now.keys) }
+    ensures ordered { IsInOrder book.now }
+{
+    let formulas = formula_cells(alloc, book)?;
+    let cells = formulas.as_slice();
+    let stale = stale_cells(alloc, book, changed, cells)?;
+    let finished = evaluate_all(alloc, book, &stale, sheet, cells)?;
+    show_constants(book, changed, sheet)?;
+    show_stale(&stale, &finished, cells, sheet)?;
+    Ok(count_among(&stale, cells))
+}
+
+/// How many of the cells are in the set.
+fn count_among(set: &BTreeSet<Cell>, cells: &[Cell]) -> u64
+    ensures { result ≡ count_by (is_among set.now.keys) cells.now }
+{
+    cells.iter().filter(|cell| set.contains(*cell)).count() as u64
+}
+
+/// The values of the stale cells that aren't circular.
+fn evaluate_all(
+    alloc: Global,
+    book: &Book,
+    stale: &BTreeSet<Cell>,
+    sheet: &BTreeMap<Cell, Option<Value>>,
+    formulas: &[Cell],
+) -> Result<BTreeMap<Cell, Value>, Memory>
+    requires ordered { IsInOrder book.now }
+    requires formulas { formulas.now ≡ formula_cells book.now }
+    requires stale { (c : Cell) → is_among stale.now.keys c ≡ true → is_formula book.now c ≡ true }
+    ensures { IfOk result (λ finished. ShowsOthers book.now stale.now.keys sheet.now.entries
+        → IsEvaluated book.now stale.now.keys finished.entries) }
+{
+    evaluate(alloc, Sight { book, stale, sheet }, formulas)
+}
