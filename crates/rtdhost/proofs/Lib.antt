@@ -3,3 +3,9 @@ pub mod Marks
 pub mod Evaluations
 pub mod Showing
 pub mod Completing
+pub mod GivenLaws
+pub mod LineLaws
+pub mod ReaderLaws
+pub mod SinkLaws
+pub mod SourceLaws
+pub mod StdLines

@@ -4,3 +4,10 @@ pub mod Inputs
 pub mod Publishing
 pub mod Recalculating
 pub mod Engine
+pub mod Lines
+pub mod Reading
+pub mod Sink
+pub mod Source
+pub mod Script
+pub mod Replies
+pub mod Output

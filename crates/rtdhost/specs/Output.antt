@@ -1,0 +1,48 @@
+-- What the program writes for the bytes that it reads.
+use Rattle.std.specs.Prelude.{ℕ, Bool, false, if◌then◌else◌, Option, Some, None, List, [], ◌∷◌, ◌++◌, codes}
+use Rattle.std.specs.Str.{bytes_eq}
+use Rattle.workbook.specs.declared.commands.Command.TheVariants as commands
+use Rattle.workbook.specs.State.{State, first_state, reply_to, state_after}
+use Rattle.rtdhost.specs.declared.script.Parsed.{Parsed}
+use Rattle.rtdhost.specs.declared.script.Parsed.TheVariants as parsed
+use Rattle.rtdhost.specs.Lines.{lines_of}
+use Rattle.rtdhost.specs.Replies.{line_of, reply_text}
+use Rattle.rtdhost.specs.Script.{line_said}
+
+-- what is written for what a line says: the reply's lines; nothing for an empty line; `bad later` for a line of no known form
+abbrev pub said_reply : State → Option Parsed → List ℕ
+said_reply s None = line_of (codes "bad later")
+said_reply s (Some parsed.Empty) = []
+said_reply s (Some (parsed.One command)) = reply_text (reply_to s command)
+said_reply s (Some (parsed.Calc kind)) = reply_text (reply_to s (commands.Begin kind)) ++ reply_text (reply_to (state_after s (commands.Begin kind)) commands.Settle)
+
+-- the state after what a line says
+abbrev pub said_after : State → Option Parsed → State
+said_after s None = s
+said_after s (Some parsed.Empty) = s
+said_after s (Some (parsed.One command)) = state_after s command
+said_after s (Some (parsed.Calc kind)) = state_after (state_after s (commands.Begin kind)) commands.Settle
+
+-- what is written for these lines, from a state on
+abbrev pub replies_from : State → List (List ℕ) → List ℕ
+replies_from s [] = []
+replies_from s (line ∷ lines) = said_reply s (line_said line) ++ replies_from (said_after s (line_said line)) lines
+
+-- the state after these lines
+abbrev pub state_from : State → List (List ℕ) → State
+state_from s [] = s
+state_from s (line ∷ lines) = state_from (said_after s (line_said line)) lines
+
+-- whether the words are the one word `run`
+abbrev pub is_run : List (List ℕ) → Bool
+is_run [] = false
+is_run (word ∷ []) = bytes_eq word (codes "run")
+is_run (word ∷ next ∷ words) = false
+
+-- the line for words that are not the program's
+abbrev pub usage_line : List ℕ
+usage_line = line_of (codes "usage: rtdhost run")
+
+-- what the program writes for these words, where it reads these bytes
+abbrev pub output_of : List (List ℕ) → List ℕ → List ℕ
+output_of words bytes = if is_run words then replies_from first_state (lines_of bytes) else usage_line

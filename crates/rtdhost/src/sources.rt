@@ -1,0 +1,104 @@
+ghost use Rattle.std.specs.Prelude.{◌≡◌, ◌<◌, ◌≤◌, ◌↔◌, ℕ, List, Option, Some, length, take, min, Contains, IsErr, IfOk, OnErr};
+ghost use Rattle.std.specs.Io.KnownBytes.{Consumes, Keeps, IsAtEnd};
+ghost use Rattle.rtdhost.specs.Sink.{counted, Rose};
+
+use std::marker::Model;
+
+/// A source or a sink failed.
+#[derive(Clone, Copy, Debug, PartialEq, Eq)]
+pub struct Failed;
+
+/// Where bytes come from.
+pub trait Source {
+    // The bytes that are left, where the source tells them.
+    ghost remaining: { Self → Option (List ℕ) };
+
+    // How often the source has failed.
+    ghost faults: { Self → ℕ };
+
+    /// Puts bytes into the front of `buf`, and answers how many. 0 at a buffer with room is the end
+    /// of the input.
+    fn read(&mut self, buf: &mut [u8]) -> Result<usize, Failed>
+        ensures fits { IfOk result (λ n. n ≤ length buf.new) }
+        ensures given { IfOk result (λ n. Consumes (remaining self.old) (remaining self.new) (take n buf.new)) }
+        ensures end { result ≡ Ok 0 → 0 < length buf.new → IsAtEnd (remaining self.new) }
+
+        // A failure takes nothing and is counted.
+        ensures kept { OnErr result (Keeps (remaining self.old) (remaining self.new)) }
+        ensures failed { OnErr result (Rose (faults self.old) (faults self.new)) }
+        ensures count { faults self.old ≤ faults self.new };
+}
+
+/// A source in memory, which tells its bytes. It gives them in pieces, and fails the calls that it
+/// was told to fail.
+#[derive(Drop)]
+pub struct MemorySource {
+    bytes: Vec<u8>,
+    start: usize,
+    piece: usize,
+    fails: Vec<u64>,
+    calls: u64,
+    faults: u64,
+}
+
+impl Model for MemorySource {
+    ghost use Rattle.std.specs.Prelude.{◌<◌, ◌≤◌, drop, length};
+    ghost use Rattle.rtdhost.specs.Source.{MemoryInput};
+
+    ghost Value = { MemoryInput };
+
+    ghost view = { λ s. record { left = drop s.start s.bytes.items; piece = s.piece; fails = s.fails.items; calls = s.calls; faults = s.faults } };
+
+    ghost invariant = { λ s. (s.start ≤ length s.bytes.items) × (0 < s.piece) };
+}
+
+impl MemorySource {
+    /// A source that gives at most `piece` bytes a call and fails the calls, counted from 1, whose
+    /// numbers stand in `fails`.
+    pub fn new(bytes: Vec<u8>, piece: usize, fails: Vec<u64>) -> MemorySource
+        requires { 0 < piece }
+        ensures { result ≡ record { left = bytes.items; piece = piece; fails = fails.items; calls = 0; faults = 0 } }
+    {
+        MemorySource {
+            bytes,
+            start: 0,
+            piece,
+            fails,
+            calls: 0,
+            faults: 0,
+        }
+    }
+}
+
+impl Source for MemorySource {
+    ghost remaining = { λ s. Some s.left };
+
+    ghost faults = { λ s. s.faults };
+
+    fn read(&mut self, buf: &mut [u8]) -> Result<usize, Failed>
+        ensures fits { IfOk result (λ n. n ≤ length buf.new) }
+        ensures given { IfOk result (λ n. Consumes (Some self.old.left) (Some self.new.left) (take n buf.new)) }
+        ensures end { result ≡ Ok 0 → 0 < length buf.new → IsAtEnd (Some self.new.left) }
+        ensures kept { OnErr result (Keeps (Some self.old.left) (Some self.new.left)) }
+        ensures failed { OnErr result (Rose self.old.faults self.new.faults) }
+        ensures count { self.old.faults ≤ self.new.faults }
+
+        ensures fails { IsErr result ↔ Contains self.old.fails (counted self.old.calls) }
+        ensures most { IfOk result (λ n. n ≡ min self.old.piece (min (length buf.old) (length self.old.left))) }
+        ensures calls { self.new.calls ≡ counted self.old.calls }
+        ensures settings { (self.new.piece ≡ self.old.piece) × (self.new.fails ≡ self.old.fails) }
+        ensures faults { IfOk result (λ _. self.new.faults ≡ self.old.faults) }
+    {
+        self.calls = self.calls.saturating_add(1);
+        if self.fails.contains(&self.calls) {
+            self.faults = self.faults.saturating_add(1);
+            return Err(Failed);
+        }
+        let left = self.bytes.len() - self.start;
+        let count = self.piece.min(buf.len().min(left));
+        let end = self.start + count;
+        buf[..count].copy_from_slice(&self.bytes[self.start..end]);
+        self.start = end;
+        Ok(count)
+    }
+}
