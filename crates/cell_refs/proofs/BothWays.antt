@@ -1,18 +1,19 @@
 -- A reference at the front of a text in upper case, both ways.
-use Rattle.std.proofs.Common.{◌≡◌, ◌≢◌, ℕ, zero, suc, ◌+◌, ◌-◌, ◌<◌, ◌≤◌, ◌^◌, Bool, true, false, cond, ◌&&◌, ◌==◌, List, [], ◌∷◌, ◌++◌, length, map, slice_index, Option, Some, None, IfSome, unwrap_or, codes, decimal, refl, ap, sym, ◌∙◌, arith, rules, append_assoc}
+use Rattle.std.proofs.Common.{◌≡◌, ◌≢◌, ℕ, ◌<◌, ◌≤◌, ◌^◌, Bool, true, false, cond, ◌&&◌, ◌==◌, List, [], ◌∷◌, ◌++◌, length, slice_index, Option, Some, None, IfSome, unwrap_or, codes, decimal, refl, ap, sym, ◌∙◌, arith, append_assoc}
 use Rattle.std.proofs.lemmas.Bool.Decides.{nat_tests}
 use Rattle.std.proofs.lemmas.Fmt.{decimal_nonempty, first_decimal, digits_decimal}
-use Rattle.std.specs.Char.{is_ascii_digit, is_ascii_uppercase, to_ascii_uppercase}
+use Rattle.std.specs.Char.{is_ascii_digit, is_ascii_uppercase}
 use Rattle.std.specs.List.{list_all}
 use Rattle.std.specs.Option.{option_map_or}
 use Rattle.std.specs.Str.{all_ascii_digits}
 use Rattle.cell_refs.specs.declared.references.RefText.{RefText}
 use Rattle.cell_refs.specs.Reading.{◌>>=◌, column_at, mark_at, number_at, reference_in, rest_after, sheet_at, sheet_number_at}
-use Rattle.cell_refs.specs.Written.{IsReference, column_letters, mark}
+use Rattle.cell_refs.specs.RefText.{IsReference}
+use Rattle.cell_refs.specs.Written.{column_letters, mark}
 use Rattle.cell_refs.proofs.Columns.{column_again, column_takes, letters_begin}
 use Rattle.cell_refs.proofs.Numbers.{number_again, number_takes}
 use Rattle.cell_refs.proofs.Numerals.{numerals}
-use Rattle.cell_refs.proofs.SheetWord.{rest_after-append, rest_after_front}
+use Rattle.cell_refs.proofs.SheetWord.{rest_after_front}
 
 pub bind_ok : {A B : Type 0} (o : Option A) (f : A → Option B) (y : B) → (o >>= f) ≡ Some y → (x : A) × (o ≡ Some x) × (f x ≡ Some y)
 bind_ok None f y e = cc
@@ -184,7 +185,8 @@ reference_takes text x e =
     let row_taken = number_takes 1048576 (mark_at column.0.1).1 row.0 (omega arith) row.1 in
     let is : made sheet.0 column.0 row.0 ≡ x = let same = row.2 in cc in
     rw (← is) (
-        joined text (sheet_capitals sheet.0.0) sheet.0.1 (mark (mark_at sheet.0.1).0) (mark_at sheet.0.1).1 (column_letters column.0.0) column.0.1 (mark (mark_at column.0.1).0) (mark_at column.0.1).1 (decimal row.0.0) row.0.1
-            sheet_taken.0 (mark_takes sheet.0.1) column_taken.0 (mark_takes column.0.1) row_taken.0,
-        record { sheet = sheet_fits sheet.0.0 sheet_taken.1; row = (row_taken.1, row_taken.2); col = (column_taken.1, column_taken.2) },
-        row_taken.3)
+      joined text (sheet_capitals sheet.0.0) sheet.0.1 (mark (mark_at sheet.0.1).0) (mark_at sheet.0.1).1 (column_letters column.0.0) column.0.1 (mark (mark_at column.0.1).0) (mark_at column.0.1).1 (decimal row.0.0) row.0.1
+          sheet_taken.0 (mark_takes sheet.0.1) column_taken.0 (mark_takes column.0.1) row_taken.0,
+      record { sheet = sheet_fits sheet.0.0 sheet_taken.1; row = (row_taken.1, row_taken.2); col = (column_taken.1, column_taken.2) },
+      row_taken.3,
+    )

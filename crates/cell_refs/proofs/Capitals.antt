@@ -1,6 +1,5 @@
 -- Digits and letters in a text and in the same text in upper case.
-use Rattle.std.proofs.Common.{◌≡◌, ℕ, ◌+◌, ◌-◌, ◌*◌, ◌<◌, ◌≤◌, Bool, true, false, cond, ◌&&◌, nat_lt, nat_le, if◌then◌else◌, slice_index, Some, None, ◌^◌, List, [], ◌∷◌, ◌++◌, map, length, take, drop, take_while, refl, ap, sym, ◌∙◌, arith, rules}
-use Rattle.std.proofs.lemmas.Grind.{common_steps}
+use Rattle.std.proofs.Common.{◌≡◌, ℕ, ◌<◌, ◌≤◌, Bool, true, false, cond, ◌&&◌, nat_lt, nat_le, if◌then◌else◌, slice_index, Some, None, List, [], ◌∷◌, map, length, take, drop, take_while, refl, ap, sym, ◌∙◌, arith}
 use Rattle.std.proofs.lemmas.Bool.Decides.{nat_tests}
 use Rattle.std.proofs.lemmas.List.Sums.{take_while-cons}
 use Rattle.std.proofs.lemmas.List.{length-map, drop-map}

@@ -1,5 +1,5 @@
 -- A column at the front of a text, both ways.
-use Rattle.std.proofs.Common.{◌≡◌, ℕ, zero, suc, ◌+◌, ◌-◌, ◌*◌, ◌/◌, ◌%◌, ◌<◌, ◌≤◌, Bool, true, false, cond, ◌&&◌, ◌⊎◌, ◌==◌, nat_lt, nat_le, List, [], ◌∷◌, ◌++◌, length, drop, take_while, slice_index, Option, Some, None, refl, ap, sym, ◌∙◌, inl, inr, arith, rules}
+use Rattle.std.proofs.Common.{◌≡◌, ℕ, zero, suc, ◌+◌, ◌-◌, ◌*◌, ◌%◌, ◌≤◌, Bool, true, false, cond, ◌&&◌, ◌==◌, nat_lt, nat_le, List, [], ◌∷◌, ◌++◌, length, drop, take_while, slice_index, Option, Some, None, refl, ap, sym, ◌∙◌, arith}
 use Rattle.std.proofs.lemmas.Bool.Decides.{nat_tests}
 use Rattle.std.proofs.lemmas.List.Sums.{take_while-cons}
 use Rattle.std.proofs.Math.Seq.{drop-append_seam}
@@ -98,6 +98,7 @@ letters_spell n some few = by_round (rounds n) refl
   where
     last : (r : ℕ) × (1 ≤ r) × (r ≤ 26) × (n ≡ 26 * rounds n + r)
     last = column_parts n some
+
     by_two : (q p : ℕ) → rounds n ≡ q → 1 ≤ q → rounds q ≡ p → Spells n (column_letters n)
     by_two q zero e some f =
         let b = last in let a = column_parts q some in
@@ -105,6 +106,7 @@ letters_spell n some few = by_round (rounds n) refl
     by_two q (suc p) e some f =
         let c = last in let b = column_parts q some in
         rw (three_letters n (suc p) b.0 c.0 (omega (arith, b.3, c.3)) (omega arith) (omega (arith, b.3, c.3)) b.1 b.2 c.1 c.2) (spells_three n (suc p) b.0 c.0 (omega (arith, b.3, c.3)) (omega arith) (omega (arith, b.3, c.3)) b.1 b.2 c.1 c.2)
+
     by_round : (q : ℕ) → rounds n ≡ q → Spells n (column_letters n)
     by_round zero e =
         let a = last in

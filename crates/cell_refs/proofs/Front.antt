@@ -1,18 +1,18 @@
 -- The reference at the front of a text is the one that stands there.
-use Rattle.std.proofs.Common.{◌≡◌, ℕ, zero, suc, ◌+◌, ◌-◌, ◌<◌, ◌≤◌, ◌^◌, Bool, true, false, cond, ◌&&◌, List, [], ◌∷◌, ◌++◌, length, map, take, drop, slice_index, Option, Some, None, option_map, IfSome, unwrap_or, codes, decimal, refl, ap, sym, subst, add-zero, ◌==◌, ◌∙◌, arith, rules}
+use Rattle.std.proofs.Common.{◌≡◌, ℕ, zero, suc, ◌-◌, ◌<◌, ◌≤◌, ◌^◌, Bool, true, false, cond, nat_lt, List, [], ◌∷◌, ◌++◌, length, take, drop, slice_index, Option, Some, None, option_map, unwrap_or, codes, decimal, refl, ap, sym, subst, add-zero, ◌==◌, ◌∙◌, arith}
 use Rattle.std.proofs.lemmas.Bool.Decides.{nat_tests}
-use Rattle.std.proofs.lemmas.Fmt.{digits_decimal}
+use Rattle.std.proofs.lemmas.Fmt.{IsAscii-decimal, decimal_nonempty, digits_decimal}
 use Rattle.std.proofs.lemmas.List.{get_or-drop, length-append, length-drop, length-map, map-append, take-append-drop, take-map}
 use Rattle.std.proofs.Math.Seq.{drop-append_seam, take-append_seam}
 use Rattle.std.specs.Char.{is_ascii_digit, is_ascii_uppercase, to_ascii_uppercase}
 use Rattle.std.specs.List.{list_all}
-use Rattle.std.specs.Str.{all_ascii_digits}
+use Rattle.std.specs.Str.{IsAscii, all_ascii_digits}
 use Rattle.cell_refs.specs.declared.cells.Cell.{Cell}
 use Rattle.cell_refs.specs.declared.references.RefText.{RefText}
 use Rattle.cell_refs.specs.Cell.{IsCell}
-use Rattle.cell_refs.specs.RefText.{cell_at}
+use Rattle.cell_refs.specs.RefText.{IsReference, cell_at}
 use Rattle.cell_refs.specs.Reading.{reference_in}
-use Rattle.cell_refs.specs.Written.{IsReference, StandsAt, capitals, cell_text, column_letters, mark, plain_reference, reference_at, reference_text, sheet_part}
+use Rattle.cell_refs.specs.Written.{StandsAt, capitals, cell_text, column_letters, mark, plain_reference, reference_at, reference_text, sheet_part}
 use Rattle.cell_refs.proofs.BothWays.{both_true, reference_again, reference_capitals, reference_takes, sheet_capitals}
 use Rattle.cell_refs.proofs.Capitals.{digit_upper, upper_digit}
 use Rattle.cell_refs.proofs.Columns.{letters_begin}
@@ -140,3 +140,68 @@ nothing_stands text none r n s = let read = read_from_stands text r n s in cc
 pub something_read : (text rest : List ℕ) (r : RefText) (n : ℕ) → reference_in (capitals text) ≡ Some (r, capitals rest) → n ≡ length text - length rest → reference_at text ≡ Some (r, n)
 unfolding reference_at
 something_read text rest r n some count = rw (some, length-map, count) refl
+
+-- a reference takes at least one byte
+pub stands_long : (text : List ℕ) (r : RefText) (n : ℕ) → StandsAt text r n → 0 < n
+unfolding reference_capitals
+stands_long text r n s =
+    let row = decimal_nonempty r.row (omega (arith, s.inside.row.1)) in
+    let long = ap length (take-map to_ascii_uppercase n text ∙ (s.spelled ∙ capitals_reference r s.inside)) in
+    let parts = length-append (sheet_capitals r.sheet) (mark r.col_fixed ++ (column_letters r.col ++ (mark r.row_fixed ++ decimal r.row))) in
+    let parts_2 = length-append (mark r.col_fixed) (column_letters r.col ++ (mark r.row_fixed ++ decimal r.row)) in
+    let parts_3 = length-append (column_letters r.col) (mark r.row_fixed ++ decimal r.row) in
+    let parts_4 = length-append (mark r.row_fixed) (decimal r.row) in
+    by_length n long (omega (arith, parts, parts_2, parts_3, parts_4, row))
+  where
+    by_length : (n : ℕ) → length (take n (capitals text)) ≡ length (reference_capitals r) → 0 < length (reference_capitals r) → 0 < n
+    by_length zero e some = omega (arith, e)
+    by_length (suc n) e some = omega arith
+
+ascii_append : (xs ys : List ℕ) → IsAscii xs → IsAscii ys → IsAscii (xs ++ ys)
+ascii_append [] ys p q i = q i
+ascii_append (x ∷ xs) ys p q zero = p zero
+ascii_append (x ∷ xs) ys p q (suc i) = ascii_append xs ys (λ j. p (suc j)) q i
+
+ascii_letters : (letters : List ℕ) → list_all is_ascii_uppercase letters ≡ true → IsAscii letters
+ascii_letters [] all i = omega arith
+ascii_letters (c ∷ cs) all zero = let upper = (both_true (is_ascii_uppercase c) (list_all is_ascii_uppercase cs) all).0 in grind (arith, nat_tests)
+ascii_letters (c ∷ cs) all (suc i) = ascii_letters cs (both_true (is_ascii_uppercase c) (list_all is_ascii_uppercase cs) all).1 i
+
+ascii_mark : (b : Bool) → IsAscii (mark b)
+ascii_mark true zero = omega arith
+ascii_mark true (suc i) = omega arith
+ascii_mark false i = omega arith
+
+ascii_codes : (bytes : List ℕ) → list_all (λ b. nat_lt b 128) bytes ≡ true → IsAscii bytes
+ascii_codes [] all i = omega arith
+ascii_codes (c ∷ cs) all zero = let low = (both_true (nat_lt c 128) (list_all (λ b. nat_lt b 128) cs) all).0 in grind (arith, nat_tests)
+ascii_codes (c ∷ cs) all (suc i) = ascii_codes cs (both_true (nat_lt c 128) (list_all (λ b. nat_lt b 128) cs) all).1 i
+
+ascii_sheet : (o : Option ℕ) → unwrap_or o 1 ≤ 64 → IsAscii (sheet_part o)
+ascii_sheet None small i = omega arith
+ascii_sheet (Some sheet) small i = ascii_append (codes "Sheet") (decimal sheet ++ codes "!") (ascii_codes (codes "Sheet") refl) (ascii_append (decimal sheet) (codes "!") (IsAscii-decimal sheet (omega arith)) (ascii_codes (codes "!") refl)) i
+
+-- a reference is written in ASCII
+pub ascii_reference : (r : RefText) → IsReference r → IsAscii (reference_text r)
+unfolding reference_text
+ascii_reference r inside =
+    ascii_append (sheet_part r.sheet) (mark r.col_fixed ++ (column_letters r.col ++ (mark r.row_fixed ++ decimal r.row))) (ascii_sheet r.sheet inside.sheet.1)
+    (ascii_append (mark r.col_fixed) (column_letters r.col ++ (mark r.row_fixed ++ decimal r.row)) (ascii_mark r.col_fixed)
+    (ascii_append (column_letters r.col) (mark r.row_fixed ++ decimal r.row) (ascii_letters (column_letters r.col) (letters_begin r.col inside.col.0 inside.col.1).0)
+    (ascii_append (mark r.row_fixed) (decimal r.row) (ascii_mark r.row_fixed) (IsAscii-decimal r.row (omega (arith, inside.row.1))))))
+
+pub ascii_cell : (cell : Cell) → IsCell cell → IsAscii (cell_text cell)
+unfolding cell_text
+ascii_cell cell inside = let P : Cell → Type 0 = IsCell in ascii_reference (plain_reference cell) (subst P (sym (plain_means cell)) inside)
+
+-- no two cells are written alike
+pub one_cell : (a b : Cell) → IsCell a → IsCell b → cell_text a ≡ cell_text b → a ≡ b
+one_cell a b fits_a fits_b e =
+    let read_a = cell_reads_back a [] fits_a refl in
+    let read_b = cell_reads_back b [] fits_b refl in
+    let pair : ◌≡◌ {A = Option (RefText × ℕ)} (Some (plain_reference a, length (cell_text a))) (Some (plain_reference b, length (cell_text b))) = sym read_a ∙ (ap (λ text. reference_at (text ++ [])) e ∙ read_b) in
+    let same : plain_reference a ≡ plain_reference b = first pair in
+    sym (plain_means a) ∙ (ap (λ r. cell_at r 1) same ∙ plain_means b)
+  where
+    first : {X Y : Type 0} {x z : X} {y w : Y} → ◌≡◌ {A = Option (X × Y)} (Some (x, y)) (Some (z, w)) → x ≡ z
+    first {X} {Y} {x} {z} {y} {w} e = let pair : ◌≡◌ {A = X × Y} (x, y) (z, w) = cc in ap (λ (p : X × Y). p.0) pair

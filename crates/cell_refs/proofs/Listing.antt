@@ -1,18 +1,16 @@
 -- The cells of an area as a list: how it goes on, what it has, and in which order.
-use Rattle.std.proofs.Common.{◌≡◌, ℕ, zero, suc, ◌+◌, ◌-◌, ◌*◌, ◌<◌, ◌≤◌, Bool, true, false, cond, ◌==◌, ◌⊎◌, List, [], ◌∷◌, ◌++◌, map, length, get_or, flat_map, refl, ap, sym, subst, ◌∙◌, inl, inr, ⊎_elim, arith, rules, length-append}
+use Rattle.std.proofs.Common.{◌≡◌, ℕ, zero, suc, ◌+◌, ◌-◌, ◌*◌, ◌<◌, ◌≤◌, Bool, true, false, cond, ◌==◌, ◌⊎◌, List, [], ◌∷◌, ◌++◌, map, length, get_or, flat_map, refl, ap, sym, subst, ◌∙◌, inl, inr, ⊎_elim, arith, length-append}
 use Rattle.std.proofs.Math.Nat.{mul-zero, suc-mul, zero-mul}
 use Rattle.std.proofs.lemmas.Bool.Decides.{nat_tests}
-use Rattle.std.proofs.lemmas.List.{length-map}
 use Rattle.std.proofs.lemmas.List.Elements.{Contains-append_cases, Contains-append_left, Contains-append_right, Contains-get_or}
 use Rattle.std.proofs.lemmas.List.FromFn.{length-map-range_with_len}
 use Rattle.std.proofs.lemmas.List.Kept.{AllPairs-cons}
 use Rattle.std.specs.List.{All, AllPairs, Contains, range_with_len}
-use Rattle.std.specs.Ordering.{nat_cmp, ordering_then}
 use Rattle.std.specs.declared.cmp.Ordering.TheVariants.{Less}
 use Rattle.cell_refs.specs.declared.areas.Area.{Area}
 use Rattle.cell_refs.specs.declared.cells.Cell.{Cell}
-use Rattle.cell_refs.specs.Area.{IsInside, cells_from, cells_of, numbers, row_cells, size_of}
-use Rattle.cell_refs.specs.Cell.{cell_cmp}
+use Rattle.cell_refs.specs.Area.{IsArea, IsInside, cells_from, cells_of, numbers, row_cells, size_of}
+use Rattle.cell_refs.specs.Cell.{IsCell, cell_cmp}
 
 range_first : (low n m : ℕ) → n ≡ suc m → range_with_len low n ≡ low ∷ range_with_len (low + 1) m
 range_first low n m e = ap (range_with_len low) e
@@ -102,8 +100,8 @@ map_has : (f : ℕ → Cell) (low n k : ℕ) → low ≤ k → k < low + n → C
 map_has f low zero k l h = absurd (omega arith)
 map_has f low (suc n) k l h =
     ⊎_elim (λ e. (let P : ℕ → Type 0 = λ j. Contains (f low ∷ map f (range_with_len (low + 1) n)) (f j) in subst P e (contains_here (f low) (map f (range_with_len (low + 1) n)))))
-      (λ above. contains_there (f low) (f k) (map f (range_with_len (low + 1) n)) (map_has f (low + 1) n k above (omega arith)))
-      (first_or_later low k l)
+    (λ above. contains_there (f low) (f k) (map f (range_with_len (low + 1) n)) (map_has f (low + 1) n k above (omega arith)))
+    (first_or_later low k l)
   where
     first_or_later : (low k : ℕ) → low ≤ k → (low ≡ k) ⊎ (low + 1 ≤ k)
     first_or_later low k l = grind arith
@@ -117,8 +115,8 @@ rows_have : (f : ℕ → List Cell) (low n k : ℕ) (cell : Cell) → low ≤ k 
 rows_have f low zero k cell l h has = absurd (omega arith)
 rows_have f low (suc n) k cell l h has =
     ⊎_elim (λ e. Contains-append_left (f low) (flat_map f (range_with_len (low + 1) n)) cell (let P : ℕ → Type 0 = λ j. Contains (f j) cell in subst P (sym e) has))
-      (λ above. Contains-append_right (f low) (flat_map f (range_with_len (low + 1) n)) cell (rows_have f (low + 1) n k cell above (omega arith) has))
-      (first_or_later low k l)
+    (λ above. Contains-append_right (f low) (flat_map f (range_with_len (low + 1) n)) cell (rows_have f (low + 1) n k cell above (omega arith) has))
+    (first_or_later low k l)
   where
     first_or_later : (low k : ℕ) → low ≤ k → (low ≡ k) ⊎ (low + 1 ≤ k)
     first_or_later low k l = grind arith
@@ -136,8 +134,8 @@ pub inside_listed : (area : Area) (cell : Cell) → IsInside area cell → Conta
 unfolding cells_of
 inside_listed area cell h =
     rows_have (row_cells area.sheet area.left area.right) area.top (area.bottom + 1 - area.top) cell.row cell h.below (omega (arith, h.above))
-      (let P : ℕ → Type 0 = λ sheet. Contains (row_cells area.sheet area.left area.right cell.row) (record { sheet = sheet; row = cell.row; col = cell.col }) in
-       subst P (sym h.sheet) (map_has (λ col. record { sheet = area.sheet; row = cell.row; col = col }) area.left (area.right + 1 - area.left) cell.col h.after (omega (arith, h.before))))
+    (let P : ℕ → Type 0 = λ sheet. Contains (row_cells area.sheet area.left area.right cell.row) (record { sheet = sheet; row = cell.row; col = cell.col }) in
+    subst P (sym h.sheet) (map_has (λ col. record { sheet = area.sheet; row = cell.row; col = col }) area.left (area.right + 1 - area.left) cell.col h.after (omega (arith, h.before))))
 
 -- order
 all_from_contains : {X : Type 0} (P : X → Type 0) (xs : List X) → ((x : X) → Contains xs x → P x) → All P xs
@@ -156,8 +154,8 @@ append_pairs : {X : Type 0} (R : X → X → Type 0) (xs ys : List X) → AllPai
 append_pairs R [] ys p q across = q
 append_pairs R (x ∷ xs) ys p q across =
     AllPairs-cons R x (xs ++ ys)
-      (all_from_contains (R x) (xs ++ ys) (λ y h. ⊎_elim (λ h. head_pairs R x xs p y h) (λ h. across x y (contains_here x xs) h) (Contains-append_cases xs ys y h)))
-      (append_pairs R xs ys (tail_pairs R x xs p) q (λ z y hz hy. across z y (contains_there x z xs hz) hy))
+    (all_from_contains (R x) (xs ++ ys) (λ y h. ⊎_elim (λ h. head_pairs R x xs p y h) (λ h. across x y (contains_here x xs) h) (Contains-append_cases xs ys y h)))
+    (append_pairs R xs ys (tail_pairs R x xs p) q (λ z y hz hy. across z y (contains_there x z xs hz) hy))
 
 -- the first cell comes before the second
 abbrev Precedes : Cell → Cell → Type 0
@@ -173,21 +171,21 @@ row_ordered : (sheet row low n : ℕ) → AllPairs Precedes (map (λ col. record
 row_ordered sheet row low zero = no_pairs Precedes
 row_ordered sheet row low (suc n) =
     AllPairs-cons Precedes (record { sheet = sheet; row = row; col = low }) (map (λ col. record { sheet = sheet; row = row; col = col }) (range_with_len (low + 1) n))
-      (all_from_contains (Precedes (record { sheet = sheet; row = row; col = low })) (map (λ col. record { sheet = sheet; row = row; col = col }) (range_with_len (low + 1) n))
-        (λ cell h. let t = in_map (λ col. record { sheet = sheet; row = row; col = col }) (low + 1) n cell h in rw (← t.3) (by_column sheet row low t.0 (omega (arith, t.1)))))
-      (row_ordered sheet row (low + 1) n)
+    (all_from_contains (Precedes (record { sheet = sheet; row = row; col = low })) (map (λ col. record { sheet = sheet; row = row; col = col }) (range_with_len (low + 1) n))
+    (λ cell h. let t = in_map (λ col. record { sheet = sheet; row = row; col = col }) (low + 1) n cell h in rw (← t.3) (by_column sheet row low t.0 (omega (arith, t.1)))))
+    (row_ordered sheet row (low + 1) n)
 
 rows_ordered : (sheet left right low n : ℕ) → AllPairs Precedes (flat_map (row_cells sheet left right) (range_with_len low n))
 rows_ordered sheet left right low zero = no_pairs Precedes
 rows_ordered sheet left right low (suc n) =
     append_pairs Precedes (row_cells sheet left right low) (flat_map (row_cells sheet left right) (range_with_len (low + 1) n))
-      (row_ordered sheet low left (right + 1 - left))
-      (rows_ordered sheet left right (low + 1) n)
-      (λ a b ha hb.
-        let first = in_map (λ col. record { sheet = sheet; row = low; col = col }) left (right + 1 - left) a ha in
-        let row = in_rows (row_cells sheet left right) (low + 1) n b hb in
-        let second = in_map (λ col. record { sheet = sheet; row = row.0; col = col }) left (right + 1 - left) b row.3 in
-        rw (← first.3, ← second.3) (by_row sheet low row.0 first.0 second.0 (omega (arith, row.1))))
+    (row_ordered sheet low left (right + 1 - left))
+    (rows_ordered sheet left right (low + 1) n)
+    (λ a b ha hb.
+    let first = in_map (λ col. record { sheet = sheet; row = low; col = col }) left (right + 1 - left) a ha in
+    let row = in_rows (row_cells sheet left right) (low + 1) n b hb in
+    let second = in_map (λ col. record { sheet = sheet; row = row.0; col = col }) left (right + 1 - left) b row.3 in
+    rw (← first.3, ← second.3) (by_row sheet low row.0 first.0 second.0 (omega (arith, row.1))))
 
 pub listed_in_order : (area : Area) → AllPairs (λ a b. cell_cmp a b ≡ Less) (cells_of area)
 unfolding cells_of
@@ -206,11 +204,6 @@ pub steps_to_row : (now : List Cell) (ended : Bool) (sheet left right bottom row
     → now ≡ (record { sheet = sheet; row = row; col = col }) ∷ cond ended [] (cells_from sheet left right bottom (row + 1) left)
 steps_to_row now ended sheet left right bottom row col is going last h =
     is ∙ (going_on ended (cells_from sheet left right bottom row col) going ∙ (next_row sheet left right bottom row col last h ∙ ap (λ cells. (record { sheet = sheet; row = row; col = col }) ∷ cells) (sym (going_on ended (cells_from sheet left right bottom (row + 1) left) going))))
-
-pub steps_to_end : (now : List Cell) (ended : Bool) (sheet left right bottom row col : ℕ) → now ≡ cond ended [] (cells_from sheet left right bottom row col) → ended ≡ false → col ≡ right → row ≡ bottom
-    → now ≡ (record { sheet = sheet; row = row; col = col }) ∷ []
-steps_to_end now ended sheet left right bottom row col is going last h =
-    is ∙ (going_on ended (cells_from sheet left right bottom row col) going ∙ no_next sheet left right bottom row col last h)
 
 -- an area without cells lacks rows or columns
 lacks : (rows columns : ℕ) → rows * columns ≡ 0 → (rows ≡ 0) ⊎ (columns ≡ 0)
@@ -231,3 +224,11 @@ begins area false e =
     let some : size_of area ≡ 0 → ⊥ = λ none. (let test : (size_of area == 0) ≡ true = grind (arith, nat_tests, none) in let both : false ≡ true = e ∙ test in cc) in
     let both = has_both (area.bottom + 1 - area.top) (area.right + 1 - area.left) some in
     sym (from_first area (omega (arith, both.0)))
+
+-- an area inside the grid has cells of the grid alone
+pub grid_cells : (area : Area) (cell : Cell) → IsArea area → IsInside area cell → IsCell cell
+grid_cells area cell fits h = record {
+  sheet = rw h.sheet fits.first.sheet;
+  row = (omega (arith, h.below, fits.first.row.0), omega (arith, h.above, fits.last.row.1));
+  col = (omega (arith, h.after, fits.first.col.0), omega (arith, h.before, fits.last.col.1));
+}

@@ -23,7 +23,11 @@ pub record IsInside (area : Area) (cell : Cell) : Type 0 where
 
 -- the same as a test
 abbrev pub area_has : Area → Cell → Bool
-area_has area cell = (cell.sheet == area.sheet) && (nat_le area.top cell.row && (nat_le cell.row area.bottom && (nat_le area.left cell.col && nat_le cell.col area.right)))
+area_has area cell =
+    (cell.sheet == area.sheet)
+    && (nat_le area.top cell.row
+    && (nat_le cell.row area.bottom
+    && (nat_le area.left cell.col && nat_le cell.col area.right)))
 
 -- the number of an area's cells
 abbrev pub size_of : Area → ℕ
@@ -31,7 +35,13 @@ size_of area = (area.bottom + 1 - area.top) * (area.right + 1 - area.left)
 
 -- the area between two references, whichever corners they are; the second one's sheet isn't used
 abbrev pub area_of : RefText → RefText → ℕ → Area
-area_of a b home = record { sheet = unwrap_or a.sheet home; top = min a.row b.row; left = min a.col b.col; bottom = max a.row b.row; right = max a.col b.col }
+area_of a b home = record {
+  sheet = unwrap_or a.sheet home;
+  top = min a.row b.row;
+  left = min a.col b.col;
+  bottom = max a.row b.row;
+  right = max a.col b.col;
+}
 
 -- the numbers from low to high
 abbrev pub numbers : ℕ → ℕ → List ℕ
@@ -39,12 +49,16 @@ numbers low high = range_with_len low (high + 1 - low)
 
 -- the cells of a row, from one column to another
 abbrev pub row_cells : ℕ → ℕ → ℕ → ℕ → List Cell
-row_cells sheet left right row = map (λ col. record { sheet = sheet; row = row; col = col }) (numbers left right)
+row_cells sheet left right row =
+    map (λ col. record { sheet = sheet; row = row; col = col }) (numbers left right)
 
 -- the cells of an area, by rows and then by columns
 unfoldable pub cells_of : Area → List Cell
-cells_of area = flat_map (row_cells area.sheet area.left area.right) (numbers area.top area.bottom)
+cells_of area =
+    flat_map (row_cells area.sheet area.left area.right) (numbers area.top area.bottom)
 
 -- the cells from a place in an area on: the rest of its row, and the rows below
 abbrev pub cells_from : ℕ → ℕ → ℕ → ℕ → ℕ → ℕ → List Cell
-cells_from sheet left right bottom row col = row_cells sheet col right row ++ flat_map (row_cells sheet left right) (numbers (row + 1) bottom)
+cells_from sheet left right bottom row col =
+    row_cells sheet col right row
+    ++ flat_map (row_cells sheet left right) (numbers (row + 1) bottom)

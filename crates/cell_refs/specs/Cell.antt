@@ -1,5 +1,5 @@
 -- Cells and their order.
-use Rattle.std.specs.Prelude.{◌≡◌, ℕ, Bool, ◌≤◌, refl}
+use Rattle.std.specs.Prelude.{ℕ, Bool, ◌≤◌, refl}
 use Rattle.std.specs.declared.cmp.Ordering.{Ordering}
 use Rattle.std.specs.Ordering.{nat_cmp, ordering_then, is_eq}
 use Rattle.std.specs.Coded.{Coded, code_by, coded×, coded_ℕ}

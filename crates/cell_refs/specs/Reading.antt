@@ -1,4 +1,4 @@
--- What a text in upper case begins with: each reader gives what it read and the text after it.
+-- What a text in upper case begins with: each definition gives what it finds and the text after it.
 use Rattle.std.specs.Prelude.{ℕ, Bool, true, false, ◌&&◌, nat_lt, nat_le, ◌==◌, if◌then◌else◌, List, [], ◌∷◌, length, take_while, drop, slice_index, Option, Some, None, codes, fold, ◌+◌, ◌-◌, ◌*◌}
 use Rattle.std.specs.Char.{is_ascii_digit, is_ascii_uppercase}
 use Rattle.std.specs.Option.{option_map_or}
@@ -14,7 +14,9 @@ None >>= f = None
 unfoldable pub number_at : ℕ → List ℕ → Option (ℕ × List ℕ)
 number_at limit text =
     let digits = take_while is_ascii_digit text in
-    if nat_lt 48 (slice_index digits 0) && nat_le (digits_value 10 digits) limit then Some (digits_value 10 digits, drop (length digits) text) else None
+    let number = digits_value 10 digits in
+    if nat_lt 48 (slice_index digits 0) && nat_le number limit
+    then Some (number, drop (length digits) text) else None
 
 -- a `$`, or nothing
 unfoldable pub mark_at : List ℕ → Bool × List ℕ
@@ -29,7 +31,9 @@ column_number letters = fold (λ n letter. 26 * n + (letter - 64)) 0 letters
 unfoldable pub column_at : List ℕ → Option (ℕ × List ℕ)
 column_at text =
     let letters = take_while is_ascii_uppercase text in
-    if nat_lt 0 (length letters) && nat_le (length letters) 3 && nat_le (column_number letters) 16384 then Some (column_number letters, drop (length letters) text) else None
+    let column = column_number letters in
+    if nat_lt 0 (length letters) && nat_le (length letters) 3 && nat_le column 16384
+    then Some (column, drop (length letters) text) else None
 
 -- what follows the word
 abbrev pub rest_after : List ℕ → List ℕ → Option (List ℕ)
@@ -46,7 +50,8 @@ sheet_number_at text = do
 
 -- a sheet with its `!`, or nothing
 unfoldable pub sheet_at : List ℕ → Option (Option ℕ × List ℕ)
-sheet_at text = option_map_or sheet_number_at (rest_after (codes "SHEET") text) (Some (None, text))
+sheet_at text =
+    option_map_or sheet_number_at (rest_after (codes "SHEET") text) (Some (None, text))
 
 -- a reference inside the grid, the digits of its row taken to their end
 unfoldable pub reference_in : List ℕ → Option (RefText × List ℕ)
@@ -54,4 +59,13 @@ reference_in text = do
   sheet ← sheet_at text
   column ← column_at (mark_at sheet.1).1
   row ← number_at 1048576 (mark_at column.1).1
-  Some (record { sheet = sheet.0; row = row.0; col = column.0; row_fixed = (mark_at column.1).0; col_fixed = (mark_at sheet.1).0 }, row.1)
+  Some (
+    record {
+      sheet = sheet.0;
+      row = row.0;
+      col = column.0;
+      row_fixed = (mark_at column.1).0;
+      col_fixed = (mark_at sheet.1).0;
+    },
+    row.1,
+  )

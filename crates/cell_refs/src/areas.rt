@@ -16,7 +16,7 @@ pub struct Area {
 
 impl Area {
     ghost use Rattle.cell_refs.specs.Area.{IsArea, IsInside, area_has, area_of, cells_of, size_of};
-    ghost use Rattle.cell_refs.specs.Written.{IsReference};
+    ghost use Rattle.cell_refs.specs.RefText.{IsReference};
 
     /// The area between two references in a formula on the sheet `home`, whichever corners they are. The sheet
     /// of the second one isn't used.

@@ -12,11 +12,17 @@ mod steps;
 mod writing;
 
 pub use areas::Area;
-pub use cells::Cell;
+pub use cells::{COLUMNS, Cell, ROWS, SHEETS};
 pub use handles::Handle;
-pub use laws::{an_area_lists_its_cells, reading_gives_what_stands, written_text_reads_back};
+pub use laws::{
+    an_area_lists_its_cells, each_cell_has_its_text, reading_gives_what_stands,
+    written_text_reads_back,
+};
 pub use memory::Memory;
 pub use reading::read_ref;
 pub use references::RefText;
 pub use steps::Steps;
 pub use writing::{write_cell, write_ref};
+
+#[cfg(test)]
+mod tests;

@@ -13,6 +13,7 @@ use super::references::RefText;
 pub fn read_ref(text: &[u8]) -> Option<(RefText, usize)>
     // It is spelled so, and lies inside the grid.
     ensures found { IfSome result (λ x. StandsAt text.now x.0 x.1) }
+    ensures length { IfSome result (λ x. (0 < x.1) × (x.1 ≤ length text.now)) }
     // None exactly where no reference inside the grid stands at the front.
     ensures none { IfNone result ((r : RefText) (n : ℕ) → StandsAt text.now r n → ⊥) }
     // The one answer that the two clauses above leave.

@@ -1,4 +1,4 @@
-ghost use Rattle.std.specs.Prelude.{◌≡◌};
+ghost use Rattle.std.specs.Prelude.{◌≡◌, ◌≤◌};
 
 use super::cells::Cell;
 
@@ -14,11 +14,13 @@ pub struct RefText {
 }
 
 impl RefText {
-    ghost use Rattle.cell_refs.specs.RefText.{cell_at};
+    ghost use Rattle.cell_refs.specs.Cell.{IsCell};
+    ghost use Rattle.cell_refs.specs.RefText.{IsReference, cell_at};
 
     /// The cell that the reference means in a formula on the sheet `home`.
     pub fn at(&self, home: u8) -> Cell
-        ensures { result ≡ cell_at self.now home }
+        ensures exact { result ≡ cell_at self.now home }
+        ensures inside { IsReference self.now → (1 ≤ home) × (home ≤ 64) → IsCell result }
     {
         Cell {
             sheet: self.sheet.unwrap_or(home),

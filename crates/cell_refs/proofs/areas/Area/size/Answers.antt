@@ -1,4 +1,4 @@
-use Rattle.std.proofs.Common.{ap, sym, ◌+◌, ◌-◌, ◌*◌, ◌≡◌, ◌∙◌}
+use Rattle.std.proofs.Common.{sym, ◌*◌, ◌≡◌, ◌∙◌}
 use Rattle.cell_refs.specs.Area.{size_of}
 use Rattle.cell_refs.proofs.Listing.{count_cells}
 use Rattle.cell_refs.proofs.areas.Area.size.Goals as goal

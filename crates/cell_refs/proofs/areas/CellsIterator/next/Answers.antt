@@ -1,4 +1,4 @@
-use Rattle.std.proofs.Common.{◌≡◌, ap, length, sym, arith}
+use Rattle.std.proofs.Common.{ap, length, sym, arith}
 use Rattle.cell_refs.proofs.Listing.{steps_in_row, steps_to_row}
 use Rattle.cell_refs.proofs.areas.CellsIterator.next.Goals as goal
 
