@@ -85,9 +85,11 @@ judged_not_long text (Some us) h = ⊎_elim
 
 -- ---- parsing
 pub parsed_long : (text : List ℕ) → is_too_long text ≡ true → parsed text ≡ Err faults.TooLong
+unfolding parsed
 parsed_long text h = cond-true _ _ _ h
 
 pub parsed_short : (text : List ℕ) → is_too_long text ≡ false → parsed text ≡ judged text (unlimited_formula_of text)
+unfolding parsed
 parsed_short text h = cond-false _ _ _ h
 
 -- what is not TooLong comes from a short text
@@ -180,6 +182,13 @@ ok_from text (Err fault) h = tt
 
 pub ok_clause : (text : List ℕ) (r : Result (List Term) ParseFault) → Gives text r → IfOk r (IsFormula text)
 ok_clause text r h = ⊎_elim (λ memory. subst (λ x. IfOk x (IsFormula text)) (sym memory) tt) (λ read. ok_from text r (sym read)) h
+
+read_from : (text : List ℕ) (r : Result (List Term) ParseFault) → IfOk r (IsFormula text) → IfOk r (λ ts. formula_of text ≡ Some ts)
+read_from text (Ok ts) h = formula_forth text ts h
+read_from text (Err fault) h = tt
+
+pub read_clause : (text : List ℕ) (r : Result (List Term) ParseFault) → Gives text r → IfOk r (λ ts. formula_of text ≡ Some ts)
+read_clause text r h = read_from text r (ok_clause text r h)
 
 pub long_clause : (text : List ℕ) (r : Result (List Term) ParseFault) → is_too_long text ≡ false → Gives text r → (r ≡ Err faults.TooLong) ↔ (8192 < length (chars text))
 long_clause text r short h = (

@@ -170,6 +170,9 @@ number_forth (b ∷ bs) row h =
     let step = row_step 0 b d.0 (omega (arith, d.1)) (le_trans (value_grows _ (digits bs)) small) in
     (b, bs, refl, d.0, ap (option_and_then (λ t. within t bs)) step ∙ row_forth (10 * 0 + (b - 48)) bs (omega (arith, d.1)) (sym sp.1 ∙ p.3) small ∙ ap (λ m. Some (Row m)) (sym v ∙ p.2))
 
+same_row : (a b : ℕ) → Row a ≡ Row b → a ≡ b
+same_row a b h = cc
+
 number_back : (c : ℕ) (cs : List ℕ) (row : ℕ) → within (Row 0) (c ∷ cs) ≡ Some (Row row) → (is_ascii_digit c ≡ true) × (number_at 1048576 (capitals (c ∷ cs)) ≡ Some (row, []))
 unfolding progress_within
 number_back c cs row h =
@@ -179,7 +182,7 @@ number_back c cs row h =
     let sp = span_yes is_ascii_digit (to_ascii_uppercase c) (capitals cs) (digit_upper c ∙ p.0) in
     let next : 0 * 10 + digit_value (to_ascii_uppercase c) ≡ 10 * 0 + (c - 48) = omega (arith, digit_is c p.0) in
     let v : digits_value 10 (digits (c ∷ cs)) ≡ digits_value_after 10 (10 * 0 + (c - 48)) (digits cs) = ap (digits_value_after 10 0) sp.0 ∙ ap (λ m. digits_value_after 10 m (digits cs)) next in
-    let row_is : row ≡ digits_value_after 10 (10 * 0 + (c - 48)) (digits cs) = cc (q.1) in
+    let row_is : row ≡ digits_value_after 10 (10 * 0 + (c - 48)) (digits cs) = same_row row (digits_value_after 10 (10 * 0 + (c - 48)) (digits cs)) q.1 in
     let u : slice_index (digits (c ∷ cs)) 0 ≡ to_ascii_uppercase c = ap (λ ds. slice_index ds 0) sp.0 in
     let value : digits_value 10 (digits (c ∷ cs)) ≡ row = v ∙ sym row_is in
     let none : after_digits (c ∷ cs) ≡ [] = sp.1 ∙ q.0 in (

@@ -48,5 +48,5 @@ judged text None = Err (faults.Syntax (syntax_place text))
 judged text (Some terms) = if list_all is_within_limit terms then Ok terms else Err faults.NumberTooLarge
 
 -- the terms of the formula that a text is, or the first fault of the text
-abbrev pub parsed : List ℕ → Result (List Term) ParseFault
+unfoldable pub parsed : List ℕ → Result (List Term) ParseFault
 parsed text = if is_too_long text then Err faults.TooLong else judged text (unlimited_formula_of text)

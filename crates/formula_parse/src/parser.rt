@@ -1,6 +1,6 @@
-ghost use Rattle.std.specs.Prelude.{◌≡◌, ◌⊎◌, ◌↔◌, ◌<◌, ℕ, length, IfOk, IsTrue};
+ghost use Rattle.std.specs.Prelude.{◌≡◌, ◌⊎◌, ◌↔◌, ◌<◌, ℕ, length, Some, IfOk};
 ghost use Rattle.std.specs.Str.{chars};
-ghost use Rattle.formula_parse.specs.Grammar.{IsFormula, is_too_long, unlimited_formula_of};
+ghost use Rattle.formula_parse.specs.Grammar.{IsFormula, formula_of, is_too_long, unlimited_formula_of};
 ghost use Rattle.formula_parse.specs.Parsed.{IsSyntaxFault, IsNumberFault, judged, parsed};
 
 use super::faults::ParseFault;
@@ -12,8 +12,10 @@ use std::alloc::Global;
 const CHARACTERS: usize = 8_192;
 
 /// The tree of the formula that the text is.
+#[tactic(auto, unfolding(crate::specs::Parsed::parsed))]
 pub fn parse(alloc: Global, text: &str) -> Result<Tree, ParseFault>
     ensures ok { IfOk result (λ terms. IsFormula text.now terms) }
+    ensures read { IfOk result (λ terms. formula_of text.now ≡ Some terms) }
     ensures too_long { (result ≡ Err ParseFault.TooLong) ↔ (8192 < length (chars text.now)) }
     ensures syntax { (place : ℕ) → result ≡ Err (ParseFault.Syntax place) → IsSyntaxFault text.now place }
     ensures number_too_large { result ≡ Err ParseFault.NumberTooLarge → IsNumberFault text.now }

@@ -1,5 +1,5 @@
 use Rattle.std.proofs.Common.{sym, ◌∙◌}
-use Rattle.formula_parse.proofs.ParseLaws.{short_gives, ok_clause, long_clause, syntax_clause, number_clause}
+use Rattle.formula_parse.proofs.ParseLaws.{short_gives, ok_clause, read_clause, long_clause, syntax_clause, number_clause}
 use Rattle.formula_parse.proofs.parser.parse.Goals as goal
 
 pub returns : goal.returns
@@ -9,6 +9,7 @@ returns c =
     let gives = short_gives text c.read_formula.result short c.read_formula.ensures in
     record {
       ok = ok_clause text c.read_formula.result gives;
+      read = read_clause text c.read_formula.result gives;
       too_long = long_clause text c.read_formula.result short gives;
       syntax = syntax_clause text c.read_formula.result gives;
       number_too_large = number_clause text c.read_formula.result gives;
