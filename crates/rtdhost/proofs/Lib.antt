@@ -9,3 +9,4 @@ pub mod ReaderLaws
 pub mod SinkLaws
 pub mod SourceLaws
 pub mod StdLines
+pub mod Scripts

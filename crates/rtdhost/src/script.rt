@@ -1,6 +1,6 @@
 //! Reads the lines of a script.
 
-ghost use Rattle.std.specs.Prelude.{◌≡◌, Some, None, Err, IfOk};
+ghost use Rattle.std.specs.Prelude.{◌≡◌, ◌≢◌, Some, None, Err, IfOk};
 ghost use Rattle.std.specs.Prelude.{option_map};
 ghost use Rattle.formula_parse.specs.Grammar.{formula_of};
 ghost use Rattle.rtdhost.specs.Script.{cell_of, content_of, set_said, word_said, words_said, line_said};
@@ -129,7 +129,16 @@ fn read_formula(alloc: Global, text: &str) -> Result<Content, BadLine>
 {
     match parse(alloc, text) {
         Ok(tree) => Ok(Content::Formula(tree)),
-        Err(ParseFault::Memory) => Err(BadLine::Memory),
-        Err(_) => Err(BadLine::Later),
+        Err(fault) => Err(bad_formula(fault)),
+    }
+}
+
+/// Why a line is bad whose formula has this fault.
+fn bad_formula(fault: ParseFault) -> BadLine
+    ensures { result ≡ BadLine.Later → fault ≢ ParseFault.Memory }
+{
+    match fault {
+        ParseFault::Memory => BadLine::Memory,
+        _ => BadLine::Later,
     }
 }
