@@ -17,9 +17,9 @@ use Rattle.cell_values.specs.declared.values.Value.TheVariants as values
 use Rattle.cell_values.specs.Digits.{whole_number, is_whole, below_zero}
 use Rattle.cell_values.specs.Error.{error_word}
 use Rattle.cell_values.specs.Text.{is_text}
-use Rattle.cell_values.specs.Word.{doubled, byte_within, quoted, value_text, begins_with_zero, number_word, bool_word, kind_of_word, undoubled, text_word, text_of_bytes, value_of_word}
+use Rattle.cell_values.specs.Word.{HasWord, doubled, byte_within, quoted, value_text, begins_with_zero, number_word, bool_word, kind_of_word, undoubled, text_word, text_of_bytes, value_of_word}
 use Rattle.cell_values.proofs.DigitFacts.{own, both_true}
-use Rattle.cell_values.proofs.WordLaws.{HasWord, equal_from_eqb, lt_from_ltb}
+use Rattle.cell_values.proofs.WordLaws.{equal_from_eqb, lt_from_ltb}
 
 -- which way a choice went
 choice : {A : Type 0} (b : Bool) (x y z : A) → cond b x y ≡ z → ((b ≡ true) × (x ≡ z)) ⊎ ((b ≡ false) × (y ≡ z))

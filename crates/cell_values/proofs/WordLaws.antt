@@ -12,16 +12,8 @@ use Rattle.cell_values.specs.declared.values.Value.{Value}
 use Rattle.cell_values.specs.declared.values.Value.TheVariants as values
 use Rattle.cell_values.specs.Digits.{whole_number, below_zero}
 use Rattle.cell_values.specs.Text.{is_text}
-use Rattle.cell_values.specs.Word.{doubled, byte_within, quoted, value_text, begins_with_zero, number_word, bool_word, kind_of_word, undoubled, text_word, text_of_bytes, value_of_word}
+use Rattle.cell_values.specs.Word.{HasWord, doubled, byte_within, quoted, value_text, begins_with_zero, number_word, bool_word, kind_of_word, undoubled, text_word, text_of_bytes, value_of_word}
 use Rattle.cell_values.proofs.DigitFacts.{own, whole_is, false_from_not, both_true}
-
--- a value that a word can say: a number within the magnitude, a text, a boolean or an error
-abbrev pub HasWord : Value → Type 0
-HasWord (values.Num n) = unsigned_abs n ≤ 999999999999999
-HasWord (values.Text t) = is_text t ≡ true
-HasWord (values.Bool b) = Unit {0}
-HasWord (values.Error e) = Unit {0}
-HasWord values.Blank = ⊥
 
 undoubled_other : (c : ℕ) (xs : List ℕ) → eqb c 34 ≡ false → undoubled (c ∷ xs) ≡ option_map (λ t. c ∷ t) (undoubled xs)
 undoubled_other c [] e = ap (λ b. cond b (Some []) None) e
@@ -91,18 +83,18 @@ number_word-decimal (negsuc n) small =
     ∙ ap (option_map below_zero) (whole_is ds (decimal_nonempty (suc n) fits) (digits_decimal own (suc n) fits) (omega arith) ∙ ap Some value)
 
 -- the word of a value says that value
-pub value_of_word-value_text : (v : Value) → HasWord v → value_of_word (value_text v) ≡ Some v
-value_of_word-value_text (values.Num n) h =
+pub value_of_word_again : (v : Value) → HasWord v → value_of_word (value_text v) ≡ Some v
+value_of_word_again (values.Num n) h =
     let w = signed_decimal n in
     ap (λ o. option_or (option_map values.Num o) (option_or (option_map values.Bool (bool_word w)) (option_or (option_map values.Error (kind_of_word w)) (option_map values.Text (text_word w))))) (number_word-decimal n h)
-value_of_word-value_text (values.Text t) h = ap (option_map values.Text) (text_word-quoted t h)
-value_of_word-value_text (values.Bool true) h = refl
-value_of_word-value_text (values.Bool false) h = refl
-value_of_word-value_text (values.Error errors.Null) h = refl
-value_of_word-value_text (values.Error errors.Div0) h = refl
-value_of_word-value_text (values.Error errors.Value) h = refl
-value_of_word-value_text (values.Error errors.Ref) h = refl
-value_of_word-value_text (values.Error errors.Name) h = refl
-value_of_word-value_text (values.Error errors.Num) h = refl
-value_of_word-value_text (values.Error errors.Na) h = refl
-value_of_word-value_text values.Blank h = absurd h
+value_of_word_again (values.Text t) h = ap (option_map values.Text) (text_word-quoted t h)
+value_of_word_again (values.Bool true) h = refl
+value_of_word_again (values.Bool false) h = refl
+value_of_word_again (values.Error errors.Null) h = refl
+value_of_word_again (values.Error errors.Div0) h = refl
+value_of_word_again (values.Error errors.Value) h = refl
+value_of_word_again (values.Error errors.Ref) h = refl
+value_of_word_again (values.Error errors.Name) h = refl
+value_of_word_again (values.Error errors.Num) h = refl
+value_of_word_again (values.Error errors.Na) h = refl
+value_of_word_again values.Blank h = absurd h

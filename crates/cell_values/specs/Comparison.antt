@@ -13,7 +13,7 @@ use Rattle.cell_values.specs.Coercion.{folded}
 abbrev pub text_cmp : List ℕ → List ℕ → Ordering
 text_cmp s t = slice_cmp nat_cmp (folded s) (folded t)
 
--- where the kinds of values stand: numbers before texts, texts before booleans
+-- where the kinds of values stand: numbers before texts, texts before booleans; a Blank counts as 0
 abbrev pub rank : Value → ℕ
 rank (values.Num n) = 0
 rank (values.Text t) = 1

@@ -8,7 +8,7 @@ use Rattle.std.specs.Str.{is_utf8, chars}
 abbrev pub MOST_CHARACTERS : ℕ
 MOST_CHARACTERS = 32767
 
--- the bytes of a text: UTF-8, at most 32,767 characters, none of them below U+0020 or U+007F
+-- the bytes of a text: UTF-8, at most 32,767 characters, no character below U+0020 and no U+007F
 abbrev pub is_text : List ℕ → Bool
 is_text t = is_utf8 t && (nat_le (length (chars t)) MOST_CHARACTERS && not (list_any is_ascii_control t))
 

@@ -1,5 +1,5 @@
 -- Value words: the written form of a value.
-use Rattle.std.specs.Prelude.{ℕ, ℤ, pos, Bool, true, false, ◌==◌, ◌&&◌, nat_lt, if◌then◌else◌, List, [], ◌∷◌, ◌++◌, length, slice_index, Option, Some, None, codes}
+use Rattle.std.specs.Prelude.{ℕ, ℤ, pos, unsigned_abs, ◌≤◌, IsTrue, Bool, true, false, ◌==◌, ◌&&◌, nat_lt, if◌then◌else◌, List, [], ◌∷◌, ◌++◌, length, slice_index, Option, Some, None, codes}
 use Rattle.std.specs.Option.{option_map, option_or, option_and_then}
 use Rattle.std.specs.List.{find, flat_map}
 use Rattle.std.specs.Fmt.{signed_decimal}
@@ -8,7 +8,7 @@ use Rattle.cell_values.specs.declared.errors.ErrorKind.{ErrorKind}
 use Rattle.cell_values.specs.declared.errors.ErrorKind.TheVariants as errors
 use Rattle.cell_values.specs.declared.values.Value.{Value}
 use Rattle.cell_values.specs.declared.values.Value.TheVariants as values
-use Rattle.cell_values.specs.Digits.{whole_number, below_zero}
+use Rattle.cell_values.specs.Digits.{GREATEST, whole_number, below_zero}
 use Rattle.cell_values.specs.Error.{error_word}
 use Rattle.cell_values.specs.Text.{is_text}
 
@@ -31,6 +31,14 @@ value_text (values.Text t) = quoted t
 value_text (values.Bool b) = if b then codes "TRUE" else codes "FALSE"
 value_text (values.Error e) = error_word e
 value_text values.Blank = codes "0"
+
+-- a value that a word says: a number within the magnitude, a text, a boolean or an error
+abbrev pub HasWord : Value → Type 0
+HasWord (values.Num n) = unsigned_abs n ≤ GREATEST
+HasWord (values.Text t) = IsTrue (is_text t)
+HasWord (values.Bool b) = Unit {0}
+HasWord (values.Error e) = Unit {0}
+HasWord values.Blank = ⊥
 
 -- whether digits begin with a zero
 abbrev pub begins_with_zero : List ℕ → Bool

@@ -1,15 +1,15 @@
-ghost use Rattle.std.specs.Prelude.{◌≡◌, ◌≤◌, pos, IfSome};
+ghost use Rattle.std.specs.Prelude.{◌≡◌, ◌≤◌, pos, unsigned_abs, IfSome};
 ghost use Rattle.std.specs.Option.{option_map};
 ghost use Rattle.cell_values.specs.Digits.{whole_number, below_zero, signed_number, after_spaces, trimmed};
 ghost use Rattle.cell_values.specs.Word.{number_word};
 
 /// The greatest magnitude of a number.
-pub const MAGNITUDE: u64 = 999_999_999_999_999;
+pub const LARGEST_NUMBER: u64 = 999_999_999_999_999;
 
 /// The number that one or more decimal digits stand for, where it is within the magnitude.
 fn whole(digits: &[u8]) -> Option<u64>
     ensures number { result ≡ whole_number digits.now }
-    ensures bound { IfSome result (λ n. n ≤ MAGNITUDE) }
+    ensures bound { IfSome result (λ n. n ≤ LARGEST_NUMBER) }
 {
     if digits.is_empty() {
         return None;
@@ -20,7 +20,7 @@ fn whole(digits: &[u8]) -> Option<u64>
             return None;
         }
         number = number * 10 + u64::from(*digit - b'0');
-        if number > MAGNITUDE {
+        if number > LARGEST_NUMBER {
             return None;
         }
     }
@@ -29,7 +29,8 @@ fn whole(digits: &[u8]) -> Option<u64>
 
 /// The number of these digits.
 fn positive(digits: &[u8]) -> Option<i64>
-    ensures { result ≡ option_map pos (whole_number digits.now) }
+    ensures number { result ≡ option_map pos (whole_number digits.now) }
+    ensures bound { IfSome result (λ n. unsigned_abs n ≤ LARGEST_NUMBER) }
 {
     match whole(digits) {
         Some(n) => Some(n as i64),
@@ -39,7 +40,8 @@ fn positive(digits: &[u8]) -> Option<i64>
 
 /// The number below zero whose magnitude has these digits.
 fn negative(digits: &[u8]) -> Option<i64>
-    ensures { result ≡ option_map below_zero (whole_number digits.now) }
+    ensures number { result ≡ option_map below_zero (whole_number digits.now) }
+    ensures bound { IfSome result (λ n. unsigned_abs n ≤ LARGEST_NUMBER) }
 {
     match whole(digits) {
         Some(n) => Some(-(n as i64)),
@@ -83,7 +85,8 @@ pub fn trim_spaces(bytes: &[u8]) -> &[u8]
 
 /// The number that a number word says. None where the bytes are no number word.
 pub fn read_number_word(text: &[u8]) -> Option<i64>
-    ensures { result ≡ number_word text.now }
+    ensures number { result ≡ number_word text.now }
+    ensures bound { IfSome result (λ n. unsigned_abs n ≤ LARGEST_NUMBER) }
 {
     match text {
         [] => None,

@@ -17,7 +17,7 @@ mod words;
 
 pub use coercions::{join, to_bool, to_number, to_text};
 pub use comparison::{CompareOp, compare};
-pub use digits::read_number_word;
+pub use digits::{LARGEST_NUMBER, read_number_word};
 pub use errors::{ErrorKind, Memory};
 pub use events::Event;
 pub use names::{Name, NameFault};

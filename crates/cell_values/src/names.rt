@@ -1,5 +1,4 @@
-ghost use Rattle.std.specs.Prelude.{◌≡◌, false, Err, IfOk, IsTrue};
-ghost use Rattle.std.specs.Prelude.{nat_eq, Some, refl};
+ghost use Rattle.std.specs.Prelude.{◌≡◌, false, Err, IfOk, IsTrue, nat_eq, Some, refl};
 ghost use Rattle.std.specs.Ordering.{nat_cmp};
 ghost use Rattle.std.specs.Cmp.{partial_equiv_from_equiv};
 ghost use Rattle.std.specs.Cmp.Lexicographic.{pointwise, slice_cmp, nat_list_eq_equiv, nat_list_cmp_total, texts_ties, texts_po};

@@ -2,7 +2,7 @@ ghost use Rattle.std.specs.Prelude.{◌≡◌, ◌≢◌, pos, ◌-ℤ◌, ◌*�
 ghost use Rattle.cell_values.specs.Value.{within_magnitude, quotient, add_of, sub_of, mul_of, div_of, negate_of};
 
 use super::coercions::to_number;
-use super::digits::MAGNITUDE;
+use super::digits::LARGEST_NUMBER;
 use super::errors::ErrorKind;
 use super::values::Value;
 
@@ -10,7 +10,7 @@ use super::values::Value;
 fn within(n: i128) -> Value
     ensures { result ≡ within_magnitude n }
 {
-    if -i128::from(MAGNITUDE) <= n && n <= i128::from(MAGNITUDE) {
+    if -i128::from(LARGEST_NUMBER) <= n && n <= i128::from(LARGEST_NUMBER) {
         Value::Num(n as i64)
     } else {
         Value::Error(ErrorKind::Num)

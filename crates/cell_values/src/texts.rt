@@ -1,5 +1,4 @@
-ghost use Rattle.std.specs.Prelude.{◌≡◌, ◌++◌, IfOk, IfErr, IsTrue, length, position};
-ghost use Rattle.std.specs.Prelude.{nat_eq};
+ghost use Rattle.std.specs.Prelude.{◌≡◌, ◌++◌, IfOk, IfErr, IsTrue, length, position, nat_eq};
 ghost use Rattle.std.specs.Cmp.{partial_equiv_from_equiv};
 ghost use Rattle.std.specs.Cmp.Lexicographic.{pointwise, nat_list_eq_equiv};
 ghost use Rattle.std.specs.Char.{is_ascii_control};
@@ -40,7 +39,7 @@ pub enum TextFault {
 }
 
 /// The greatest number of characters of a text.
-const MOST_CHARACTERS: usize = 32_767;
+const CHARACTER_LIMIT: usize = 32_767;
 
 impl Text {
     ghost use Rattle.cell_values.specs.Text.{is_text};
@@ -52,7 +51,7 @@ impl Text {
         ensures ok { IfOk result (λ _. IsTrue (is_text s.now)) }
         ensures fault { IfErr result (λ fault. IsFaultOf fault s.now) }
     {
-        if count_characters(s) > MOST_CHARACTERS {
+        if count_characters(s) > CHARACTER_LIMIT {
             return Err(TextFault::TooLong);
         }
         if let Some(place) = first_control(s.as_bytes()) {
@@ -119,7 +118,7 @@ impl Text {
             Ok(both) => both,
             Err(_) => return Err(Memory),
         };
-        if count_characters(both.as_str()) > MOST_CHARACTERS {
+        if count_characters(both.as_str()) > CHARACTER_LIMIT {
             return Ok(None);
         }
         match ArcStr::from_string(both) {

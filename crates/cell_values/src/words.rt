@@ -1,5 +1,5 @@
 ghost use Rattle.std.specs.Prelude.{◌≡◌, ◌++◌, length, take, Some, None, IfOk, OnOk, OnErr};
-ghost use Rattle.cell_values.specs.Word.{value_text, value_of_word, quoted, byte_within, undoubled, text_word, text_of_bytes, bool_word, kind_of_word};
+ghost use Rattle.cell_values.specs.Word.{value_text, value_of_word, HasWord, quoted, byte_within, undoubled, text_word, text_of_bytes, bool_word, kind_of_word};
 
 use super::digits::read_number_word;
 use super::errors::{ErrorKind, Memory};
@@ -18,7 +18,19 @@ pub enum ValueFault {
 }
 
 /// Appends the value word; a Blank is written as `0`.
+#[tactic(auto, using(crate::proofs::WordLaws::value_of_word_again))]
 pub fn print_value(v: &Value, out: &mut Vec<u8>) -> Result<(), Memory>
+    ensures ok { OnOk result (out.new.items ≡ out.old.items ++ value_text v.now) }
+    ensures err { OnErr result (out.new.items ≡ out.old.items) }
+
+    // What is written is read again as the value.
+    ensures again { HasWord v.now → value_of_word (value_text v.now) ≡ Some v.now }
+{
+    append_value(v, out)
+}
+
+/// Appends the value word.
+fn append_value(v: &Value, out: &mut Vec<u8>) -> Result<(), Memory>
     ensures ok { OnOk result (out.new.items ≡ out.old.items ++ value_text v.now) }
     ensures err { OnErr result (out.new.items ≡ out.old.items) }
 {
@@ -84,6 +96,20 @@ fn append_within(out: &mut Vec<u8>, byte: u8) -> Result<(), Memory>
 
 /// The value that a value word says.
 pub fn read_value(alloc: Global, text: &str) -> Result<Value, ValueFault>
+    ensures ok { IfOk result (λ value. value_of_word text.now ≡ Some value) }
+    ensures form { result ≡ Err ValueFault.Form → value_of_word text.now ≡ None }
+
+    // A value is read from its own word alone.
+    ensures word { IfOk result (λ value. (text.now ≡ value_text value) × HasWord value) }
+{
+    match read_word(alloc, text) {
+        Ok(value) => Ok(value),
+        Err(fault) => Err(fault),
+    }
+}
+
+/// The value that a value word says.
+fn read_word(alloc: Global, text: &str) -> Result<Value, ValueFault>
     ensures ok { IfOk result (λ value. value_of_word text.now ≡ Some value) }
     ensures form { result ≡ Err ValueFault.Form → value_of_word text.now ≡ None }
 {

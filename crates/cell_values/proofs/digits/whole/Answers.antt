@@ -11,9 +11,9 @@ returns-then-not-is_ascii_digit-clause-number c =
     sym (whole_of_no_digit c.args.digits.now c.loop-digit.digit-index c.loop-digit-test.true
     (outside_digits _ _ c.if-not-is_ascii_digit.true c.is_ascii_digit.ensures.value))
 
-pub returns-then-number-gt-MAGNITUDE-clause-number :
-    goal.returns-then-number-gt-MAGNITUDE-clause-number
-returns-then-number-gt-MAGNITUDE-clause-number c =
+pub returns-then-number-gt-LARGEST_NUMBER-clause-number :
+    goal.returns-then-number-gt-LARGEST_NUMBER-clause-number
+returns-then-number-gt-LARGEST_NUMBER-clause-number c =
     let ds = c.args.digits.now in
     let i = c.loop-digit.digit-index in
     let value : digit_value (get_or ds i 0) ≡ get_or ds i 0 - 48 = value_of_digit _ _ c.if-not-is_ascii_digit.false c.is_ascii_digit.ensures.value in
