@@ -1,0 +1,87 @@
+//! Acts on the lines of a script and appends their replies.
+
+ghost use Rattle.std.specs.Prelude.{◌≡◌, ◌++◌, ◌+◌, ◌^◌, ◌<◌, ◌≤◌, OnOk, OnErr, None, Some, take, vec_len};
+ghost use Rattle.rtdhost.specs.Engine.{Stands};
+ghost use Rattle.rtdhost.specs.Output.{said_reply, said_after};
+ghost use Rattle.rtdhost.specs.Replies.{line_of, reply_text};
+ghost use Rattle.rtdhost.specs.Script.{line_said};
+ghost use Rattle.workbook.specs.State.{State, reply_to, state_after};
+
+use std::alloc::Global;
+
+use cell_values::Memory;
+use workbook::{BeginKind, Command};
+
+use super::engine::Engine;
+use super::replies::{write_line, write_reply};
+use super::script::{BadLine, Parsed, read_line};
+
+/// Acts on a line without its end and appends what it is answered with. A refusal leaves `out` as it was.
+pub fn answer(
+    alloc: Global,
+    engine: &mut Engine,
+    line: &[u8],
+    out: &mut Vec<u8>,
+) -> Result<(), Memory>
+    requires { engine.old.round + 2 < 2 ^ 64 }
+    ensures step { (s : State) → Stands engine.old s → OnOk result
+        ((out.new.items ≡ out.old.items ++ said_reply s (line_said line.now)) × Stands engine.new (said_after s (line_said line.now))) }
+    ensures err { OnErr result (out.new.items ≡ out.old.items) }
+    ensures round { OnOk result (engine.new.round ≤ engine.old.round + 2) }
+{
+    match read_line(alloc, line) {
+        Ok(Parsed::Empty) => Ok(()),
+        Ok(Parsed::One(command)) => act(engine, command, out),
+        Ok(Parsed::Calc(kind)) => calculate(engine, kind, out),
+        Err(BadLine::Memory) => Err(Memory),
+        Err(BadLine::Later) => answer_bad(out),
+    }
+}
+
+/// Appends the reply to a line that is not of the known forms. A refusal leaves `out` as it was.
+pub fn answer_bad(out: &mut Vec<u8>) -> Result<(), Memory>
+    ensures ok { (s : State) → OnOk result (out.new.items ≡ out.old.items ++ said_reply s None) }
+    ensures err { OnErr result (out.new.items ≡ out.old.items) }
+{
+    write_line(b"bad later", out)
+}
+
+/// Acts on a command and appends the reply's lines.
+fn act(engine: &mut Engine, command: Command, out: &mut Vec<u8>) -> Result<(), Memory>
+    requires { engine.old.round + 1 < 2 ^ 64 }
+    ensures step { (s : State) → Stands engine.old s → OnOk result
+        ((out.new.items ≡ out.old.items ++ reply_text (reply_to s command)) × Stands engine.new (state_after s command)) }
+    ensures err { OnErr result (out.new.items ≡ out.old.items) }
+    ensures round { OnOk result (engine.new.round ≤ engine.old.round + 1) }
+{
+    let reply = engine.act(command)?;
+    write_reply(&reply, out)
+}
+
+/// Begins a recalculation and settles it.
+fn calculate(engine: &mut Engine, kind: BeginKind, out: &mut Vec<u8>) -> Result<(), Memory>
+    requires { engine.old.round + 2 < 2 ^ 64 }
+    ensures step { (s : State) → Stands engine.old s → OnOk result
+        ((out.new.items ≡ out.old.items ++ said_reply s (Some (Parsed.Calc kind))) × Stands engine.new (said_after s (Some (Parsed.Calc kind)))) }
+    ensures err { OnErr result (out.new.items ≡ out.old.items) }
+    ensures round { OnOk result (engine.new.round ≤ engine.old.round + 2) }
+{
+    let start = out.len();
+    let answered = begin_and_settle(engine, kind, out);
+    if answered.is_err() {
+        out.truncate(start);
+    }
+    answered
+}
+
+/// The two commands of a calculation; a refusal may leave the first reply.
+fn begin_and_settle(engine: &mut Engine, kind: BeginKind, out: &mut Vec<u8>) -> Result<(), Memory>
+    requires { engine.old.round + 2 < 2 ^ 64 }
+    ensures step { (s : State) → Stands engine.old s → OnOk result
+        ((out.new.items ≡ out.old.items ++ said_reply s (Some (Parsed.Calc kind))) × Stands engine.new (said_after s (Some (Parsed.Calc kind)))) }
+    ensures kept { take (vec_len out.old) out.new.items ≡ out.old.items }
+    ensures round { OnOk result (engine.new.round ≤ engine.old.round + 2) }
+{
+    act(engine, Command::Begin(kind), out)?;
+    act(engine, Command::Settle, out)
+}
