@@ -8,7 +8,7 @@ use Rattle.std.proofs.lemmas.List.Kept.{AllPairs-cons}
 use Rattle.std.specs.List.{All, AllPairs, Contains, range_with_len}
 use Rattle.std.specs.declared.cmp.Ordering.TheVariants.{Less}
 use Rattle.cell_refs.specs.declared.areas.Area.{Area}
-use Rattle.cell_refs.specs.declared.cells.Cell.{Cell}
+use Rattle.cell_refs.specs.declared.grid.Cell.{Cell}
 use Rattle.cell_refs.specs.Area.{IsArea, IsInside, cells_from, cells_of, numbers, row_cells, size_of}
 use Rattle.cell_refs.specs.Cell.{IsCell, cell_cmp}
 

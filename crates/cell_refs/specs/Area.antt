@@ -2,7 +2,7 @@
 use Rattle.std.specs.Prelude.{◌≡◌, ◌==◌, ◌&&◌, nat_le, Bool, ℕ, ◌+◌, ◌-◌, ◌*◌, ◌≤◌, List, ◌++◌, map, flat_map, min, max, unwrap_or}
 use Rattle.std.specs.List.{range_with_len}
 use Rattle.cell_refs.specs.declared.areas.Area.{Area}
-use Rattle.cell_refs.specs.declared.cells.Cell.{Cell}
+use Rattle.cell_refs.specs.declared.grid.Cell.{Cell}
 use Rattle.cell_refs.specs.declared.references.RefText.{RefText}
 use Rattle.cell_refs.specs.Cell.{IsCell}
 

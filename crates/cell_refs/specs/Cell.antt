@@ -3,7 +3,7 @@ use Rattle.std.specs.Prelude.{ℕ, Bool, ◌≤◌, refl}
 use Rattle.std.specs.declared.cmp.Ordering.{Ordering}
 use Rattle.std.specs.Ordering.{nat_cmp, ordering_then, is_eq}
 use Rattle.std.specs.Coded.{Coded, code_by, coded×, coded_ℕ}
-use Rattle.cell_refs.specs.declared.cells.Cell.{Cell}
+use Rattle.cell_refs.specs.declared.grid.Cell.{Cell}
 
 -- a cell of the grid
 pub record IsCell (cell : Cell) : Type 0 where

@@ -1,7 +1,7 @@
 -- Written references.
 use Rattle.std.specs.Prelude.{ℕ, unwrap_or}
 use Rattle.cell_refs.specs.Cell.{IsCell}
-use Rattle.cell_refs.specs.declared.cells.Cell.{Cell}
+use Rattle.cell_refs.specs.declared.grid.Cell.{Cell}
 use Rattle.cell_refs.specs.declared.references.RefText.{RefText}
 
 -- the cell that a reference means in a formula on the sheet home

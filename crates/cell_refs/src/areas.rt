@@ -1,6 +1,6 @@
 ghost use Rattle.std.specs.Prelude.{◌≡◌, ◌↔◌, ◌≤◌, IsTrue, length};
 
-use super::cells::Cell;
+use super::grid::Cell;
 use super::references::RefText;
 use std::marker::Model;
 
@@ -87,7 +87,7 @@ pub struct Cells {
 
 impl Model for Cells {
     ghost use Rattle.std.specs.Prelude.{◌≡◌, ◌≤◌, List, [], false, if◌then◌else◌};
-    ghost use Rattle.cell_refs.specs.declared.cells.Cell.{Cell};
+    ghost use Rattle.cell_refs.specs.declared.grid.Cell.{Cell};
     ghost use Rattle.cell_refs.specs.Area.{cells_from};
 
     ghost Value = { List Cell };

@@ -1,4 +1,4 @@
-use super::cells::Cell;
+use super::grid::Cell;
 
 /// An asynchronous call that was left open: the session and the recalculation that asked, the cell, and the place of
 /// the call in the cell's formula.

@@ -4,7 +4,7 @@ ghost use Rattle.std.specs.Prelude.{◌≡◌, ℕ, ◌≤◌, ◌↔◌, ◌++�
 ghost use Rattle.std.specs.Char.{is_ascii_digit};
 ghost use Rattle.std.specs.declared.cmp.Ordering.TheVariants.{Less};
 ghost use Rattle.cell_refs.specs.declared.areas.Area.{Area};
-ghost use Rattle.cell_refs.specs.declared.cells.Cell.{Cell};
+ghost use Rattle.cell_refs.specs.declared.grid.Cell.{Cell};
 ghost use Rattle.cell_refs.specs.declared.references.RefText.{RefText};
 ghost use Rattle.cell_refs.specs.Area.{IsArea, IsInside, area_has, cells_of, size_of};
 ghost use Rattle.cell_refs.specs.Cell.{IsCell, cell_cmp};

@@ -1,8 +1,8 @@
 //! Cells of a workbook's grid, areas of them, and the written references that name them.
 #![tactic(auto)]
 
-pub mod areas;
-mod cells;
+mod areas;
+mod grid;
 mod handles;
 mod laws;
 mod memory;
@@ -11,8 +11,8 @@ mod references;
 mod steps;
 mod writing;
 
-pub use areas::Area;
-pub use cells::{COLUMNS, Cell, ROWS, SHEETS};
+pub use areas::{Area, Cells};
+pub use grid::{COLUMNS, Cell, ROWS, SHEETS};
 pub use handles::Handle;
 pub use laws::{
     an_area_lists_its_cells, each_cell_has_its_text, reading_gives_what_stands,

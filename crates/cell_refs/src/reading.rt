@@ -6,7 +6,7 @@ ghost use Rattle.cell_refs.specs.declared.references.RefText.{RefText};
 ghost use Rattle.cell_refs.specs.Reading.{number_at, mark_at, column_at, column_number, rest_after, sheet_number_at, sheet_at, reference_in};
 ghost use Rattle.cell_refs.specs.Written.{capitals, reference_at, StandsAt};
 
-use super::cells::{COLUMNS, ROWS, SHEETS};
+use super::grid::{COLUMNS, ROWS, SHEETS};
 use super::references::RefText;
 
 /// The reference at the front of a text and its length, the digits of its row taken to their end.

@@ -1,6 +1,6 @@
 ghost use Rattle.std.specs.Prelude.{◌≡◌, ◌≤◌};
 
-use super::cells::Cell;
+use super::grid::Cell;
 
 /// A reference as it is written: its sheet where one is written, its row and its column, and which of
 /// the two are marked as absolute by `$`.

@@ -1,7 +1,7 @@
 ghost use Rattle.std.specs.Prelude.{◌≡◌, ◌++◌, OnOk, OnErr, take, vec_len, decimal};
 ghost use Rattle.cell_refs.specs.Written.{cell_text, column_letters, last_letter, mark, reference_text, rounds, sheet_part};
 
-use super::cells::Cell;
+use super::grid::Cell;
 use super::memory::Memory;
 use super::references::RefText;
 use itoa::Buffer;

@@ -1,6 +1,6 @@
 -- Formulas as trees.
 use Rattle.std.specs.Prelude.{◌≡◌, ℕ, ◌<◌, pos, ◌≤ℤ◌, List, [], ◌∷◌, length, All, None}
-use Rattle.cell_refs.specs.declared.cells.Cell.{Cell}
+use Rattle.cell_refs.specs.declared.grid.Cell.{Cell}
 use Rattle.cell_refs.specs.Cell.{IsCell}
 use Rattle.cell_refs.specs.RefText.{cell_at}
 use Rattle.formula_parse.specs.declared.trees.Term.{Term}

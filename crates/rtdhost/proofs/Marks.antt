@@ -3,7 +3,7 @@ use Rattle.std.proofs.Common.{◌≡◌, ℕ, zero, suc, arith, ◌+◌, ◌<◌
 use Rattle.std.specs.List.{list_any, slice_index_or}
 use Rattle.std.proofs.lemmas.Bool.{or_cases, and_parts, and_from}
 use Rattle.std.proofs.lemmas.List.Folds.{list_any_more, list_any_at}
-use Rattle.cell_refs.specs.declared.cells.Cell.{Cell}
+use Rattle.cell_refs.specs.declared.grid.Cell.{Cell}
 use Rattle.cell_refs.specs.Cell.{same_cell}
 use Rattle.workbook.proofs.Cells.{same_cell_is, same_cells}
 use Rattle.workbook.proofs.Walking.{any_leads}

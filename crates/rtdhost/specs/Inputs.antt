@@ -2,7 +2,7 @@
 use Rattle.std.specs.Prelude.{◌≡◌, ℕ, Bool, true, false, if◌then◌else◌, Option, None, Some, is_some, unwrap_or, List, [], ◌∷◌, ◌⊎◌, option_and_then}
 use Rattle.std.specs.List.{list_all}
 use Rattle.std.specs.Map.{lookup}
-use Rattle.cell_refs.specs.declared.cells.Cell.{Cell}
+use Rattle.cell_refs.specs.declared.grid.Cell.{Cell}
 use Rattle.cell_refs.specs.Cell.{same_cell}
 use Rattle.cell_refs.specs.RefText.{cell_at}
 use Rattle.cell_values.specs.declared.values.Value.{Value}

@@ -1,7 +1,7 @@
 -- How stale cells are marked.
 use Rattle.std.specs.Prelude.{◌≡◌, ℕ, Bool, true, if◌then◌else◌, ◌||◌, ◌⊎◌, List}
 use Rattle.std.specs.List.{list_any}
-use Rattle.cell_refs.specs.declared.cells.Cell.{Cell}
+use Rattle.cell_refs.specs.declared.grid.Cell.{Cell}
 use Rattle.cell_refs.specs.Cell.{same_cell}
 use Rattle.workbook.specs.declared.contents.Content.{Content}
 use Rattle.workbook.specs.Book.{named_cells, is_formula}

@@ -1,6 +1,6 @@
 -- What a recalculation goes on from.
 use Rattle.std.specs.Prelude.{◌≡◌, false, List}
-use Rattle.cell_refs.specs.declared.cells.Cell.{Cell}
+use Rattle.cell_refs.specs.declared.grid.Cell.{Cell}
 use Rattle.workbook.specs.declared.contents.Content.{Content}
 use Rattle.workbook.specs.Book.{content_at}
 use Rattle.workbook.specs.Stale.{is_among}

@@ -3,7 +3,7 @@
 ghost use Rattle.std.specs.Prelude.{◌≡◌, Ok, IfOk, OnOk, option_copied, true, false, Some, is_some};
 ghost use Rattle.std.specs.Option.{option_map, option_and_then};
 ghost use Rattle.std.specs.Map.{lookup};
-ghost use Rattle.cell_refs.specs.declared.cells.Cell.{Cell};
+ghost use Rattle.cell_refs.specs.declared.grid.Cell.{Cell};
 ghost use Rattle.cell_refs.specs.Cell.{same_cell};
 ghost use Rattle.cell_values.specs.declared.values.Value.{Value};
 ghost use Rattle.cell_values.specs.Value.{final_of};

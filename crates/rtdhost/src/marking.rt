@@ -2,7 +2,7 @@
 
 ghost use Rattle.std.specs.Prelude.{◌≡◌, Ok, Err, IfOk, OnOk, true, false, if◌then◌else◌, [], ◌∷◌, ◌++◌};
 ghost use Rattle.std.specs.List.{list_any};
-ghost use Rattle.cell_refs.specs.declared.cells.Cell.{Cell};
+ghost use Rattle.cell_refs.specs.declared.grid.Cell.{Cell};
 ghost use Rattle.formula_parse.specs.Tree.{precedents};
 ghost use Rattle.workbook.specs.Book.{IsInOrder, is_formula, formula_cells};
 ghost use Rattle.workbook.specs.Stale.{is_among, is_stale};

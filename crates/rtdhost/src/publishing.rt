@@ -1,7 +1,7 @@
 //! Shows the values of a completed recalculation.
 
 ghost use Rattle.std.specs.Prelude.{◌≡◌, OnOk, true, false, Some, None};
-ghost use Rattle.cell_refs.specs.declared.cells.Cell.{Cell};
+ghost use Rattle.cell_refs.specs.declared.grid.Cell.{Cell};
 ghost use Rattle.workbook.specs.Book.{IsInOrder, is_formula};
 ghost use Rattle.workbook.specs.Stale.{is_among};
 ghost use Rattle.rtdhost.specs.Inputs.{IsEvaluated, known_content};

@@ -2,7 +2,7 @@
 
 ghost use Rattle.std.specs.Prelude.{◌≡◌, IfOk, List, true};
 ghost use Rattle.std.specs.List.{count_by};
-ghost use Rattle.cell_refs.specs.declared.cells.Cell.{Cell};
+ghost use Rattle.cell_refs.specs.declared.grid.Cell.{Cell};
 ghost use Rattle.workbook.specs.declared.contents.Content.{Content};
 ghost use Rattle.workbook.specs.Book.{IsInOrder, is_formula, formula_cells};
 ghost use Rattle.workbook.specs.Stale.{is_among, stale_count};

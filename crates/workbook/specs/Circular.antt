@@ -1,7 +1,7 @@
 -- Circular cells, by walks along the cells that formulas name.
 use Rattle.std.specs.Prelude.{ℕ, zero, suc, Bool, List}
 use Rattle.std.specs.List.{list_any}
-use Rattle.cell_refs.specs.declared.cells.Cell.{Cell}
+use Rattle.cell_refs.specs.declared.grid.Cell.{Cell}
 use Rattle.workbook.specs.declared.contents.Content.{Content}
 use Rattle.workbook.specs.Book.{is_formula, named_cells, formula_count}
 

@@ -25,7 +25,7 @@ pub struct Book {
 impl Model for Book {
     ghost use Rattle.std.specs.Prelude.{◌≡◌, List, ◌≤◌, length};
     ghost use Rattle.std.specs.BTreeMap.{IsOrdered};
-    ghost use Rattle.cell_refs.specs.declared.cells.Cell.{Cell};
+    ghost use Rattle.cell_refs.specs.declared.grid.Cell.{Cell};
     ghost use Rattle.cell_refs.specs.Cell.{cell_cmp};
     ghost use Rattle.workbook.specs.declared.contents.Content.{Content};
 

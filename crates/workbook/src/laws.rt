@@ -2,7 +2,7 @@
 
 ghost use Rattle.std.specs.Prelude.{◌≡◌, ℕ, Bool, true, false, List, Some};
 ghost use Rattle.std.specs.List.{list_any};
-ghost use Rattle.cell_refs.specs.declared.cells.Cell.{Cell};
+ghost use Rattle.cell_refs.specs.declared.grid.Cell.{Cell};
 ghost use Rattle.workbook.specs.declared.contents.Content.{Content};
 ghost use Rattle.workbook.specs.Book.{IsInOrder, is_formula, content_at, named_cells, formula_count};
 ghost use Rattle.workbook.specs.Circular.{is_circular, walks_on};

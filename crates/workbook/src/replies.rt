@@ -13,7 +13,7 @@ pub struct SheetCells {
 
 impl Model for SheetCells {
     ghost use Rattle.std.specs.Prelude.{List, Option};
-    ghost use Rattle.cell_refs.specs.declared.cells.Cell.{Cell};
+    ghost use Rattle.cell_refs.specs.declared.grid.Cell.{Cell};
     ghost use Rattle.cell_values.specs.declared.values.Value.{Value as CellValue};
 
     ghost Value = { List (Cell × Option CellValue) };

@@ -1,5 +1,5 @@
 use Rattle.std.proofs.Common.{◌≡◌, true, false}
-use Rattle.cell_refs.specs.declared.cells.Cell.{Cell}
+use Rattle.cell_refs.specs.declared.grid.Cell.{Cell}
 use Rattle.workbook.specs.Book.{is_formula}
 use Rattle.workbook.specs.Stale.{is_among}
 use Rattle.rtdhost.specs.Publishing.{KeepsMeanings, ShowsMeaning}

@@ -1,6 +1,6 @@
 use Rattle.std.proofs.Common.{◌≡◌, true, ◌∙◌, sym}
 use Rattle.std.proofs.lemmas.Bool.{and_parts}
-use Rattle.cell_refs.specs.declared.cells.Cell.{Cell}
+use Rattle.cell_refs.specs.declared.grid.Cell.{Cell}
 use Rattle.workbook.specs.Book.{is_formula}
 use Rattle.workbook.specs.Stale.{is_among}
 use Rattle.rtdhost.proofs.Completing.{shows_others, all_shown, count_stale, stale_formulas}
