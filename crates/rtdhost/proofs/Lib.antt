@@ -1,5 +1,6 @@
 -- Laws that the proofs of this crate share.
 pub mod Marks
+pub mod Appending
 pub mod Evaluations
 pub mod Showing
 pub mod Completing

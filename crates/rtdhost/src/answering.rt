@@ -52,6 +52,7 @@ fn act(engine: &mut Engine, command: Command, out: &mut Vec<u8>) -> Result<(), M
     ensures step { (s : State) → Stands engine.old s → OnOk result
         ((out.new.items ≡ out.old.items ++ reply_text (reply_to s command)) × Stands engine.new (state_after s command)) }
     ensures err { OnErr result (out.new.items ≡ out.old.items) }
+    ensures kept { take (vec_len out.old) out.new.items ≡ out.old.items }
     ensures round { OnOk result (engine.new.round ≤ engine.old.round + 1) }
 {
     let reply = engine.act(command)?;
