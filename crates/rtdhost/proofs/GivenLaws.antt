@@ -15,7 +15,7 @@ pub HasGiven-start : (all : List ℕ) → HasGiven all [] (record { pending = []
 HasGiven-start all = record { given = []; cut = refl; whole = inl tt; bytes = refl; count = refl }
 
 -- what was given before ends with LF, as long as the source has not ended
-whole_before : (given : List ℕ) (ended : Bool) → ended ≡ false → IsWhole given ⊎ (ended ≡ true) → IsWhole given
+pub whole_before : (given : List ℕ) (ended : Bool) → ended ≡ false → IsWhole given ⊎ (ended ≡ true) → IsWhole given
 whole_before given ended going (inl whole) = whole
 whole_before given ended going (inr end) = absurd (false≢true (sym going ∙ end))
 
@@ -24,7 +24,7 @@ whole_after given raw ended whole (inl last) = inl (IsWhole-append given raw who
 whole_after given raw ended whole (inr end) = inr end
 
 -- the bytes behind those that were given
-behind : (all given pending came raw pending' left left' : List ℕ) → all ≡ given ++ (pending ++ left) → pending ++ came ≡ raw ++ pending' → left ≡ came ++ left' → all ≡ (given ++ raw) ++ (pending' ++ left')
+pub behind : (all given pending came raw pending' left left' : List ℕ) → all ≡ given ++ (pending ++ left) → pending ++ came ≡ raw ++ pending' → left ≡ came ++ left' → all ≡ (given ++ raw) ++ (pending' ++ left')
 behind all given pending came raw pending' left left' e moved told =
     e ∙ ap (λ bs. given ++ (pending ++ bs)) told ∙ ap (λ bs. given ++ bs) (sym (append_assoc pending came left'))
     ∙ ap (λ bs. given ++ (bs ++ left')) moved ∙ ap (λ bs. given ++ bs) (append_assoc raw pending' left')

@@ -11,3 +11,4 @@ pub mod SinkLaws
 pub mod SourceLaws
 pub mod StdLines
 pub mod Scripts
+pub mod Sessions

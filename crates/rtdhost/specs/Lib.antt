@@ -6,6 +6,7 @@ pub mod Recalculating
 pub mod Engine
 pub mod Lines
 pub mod Reading
+pub mod Session
 pub mod Sink
 pub mod Source
 pub mod Script

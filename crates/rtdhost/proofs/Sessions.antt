@@ -1,0 +1,80 @@
+-- What one line more does to what a session has answered and written.
+use Rattle.std.proofs.Common.{◌≡◌, ℕ, ◌<◌, ◌⊎◌, inl, inr, Bool, true, false, cond, List, [], ◌∷◌, ◌++◌, length, Option, Some, None, refl, sym, ap, subst, ◌∙◌, append_assoc, arith}
+use Rattle.std.proofs.lemmas.Bool.{lt-ltb}
+use Rattle.std.proofs.lemmas.List.{append-nil}
+use Rattle.workbook.specs.State.{State, first_state}
+use Rattle.rtdhost.specs.declared.engine.Engine.{Engine}
+use Rattle.rtdhost.specs.declared.lines.Line.{Line}
+use Rattle.rtdhost.specs.Engine.{Stands}
+use Rattle.rtdhost.specs.Lines.{lines_of, IsWhole}
+use Rattle.rtdhost.specs.Output.{said_reply, said_after, replies_from, state_from}
+use Rattle.rtdhost.specs.Reading.{Reading, HasGiven, IsTextOf}
+use Rattle.rtdhost.specs.Script.{line_said}
+use Rattle.rtdhost.specs.Session.{HasAnswered}
+use Rattle.rtdhost.specs.Sink.{Appends, AppendsPrefix}
+use Rattle.rtdhost.proofs.GivenLaws.{lines_at_end}
+use Rattle.rtdhost.proofs.LineLaws.{lines_of-append}
+use Rattle.rtdhost.proofs.SinkLaws.{Appends-more, AppendsPrefix-more, AppendsPrefix-wider}
+
+-- a line that is too long says nothing
+pub too_long : (text : List ℕ) → 160000 < length text → line_said text ≡ None
+too_long text long = ap (λ b. cond b None _) (lt-ltb 160000 (length text) long)
+
+-- the answers to some lines and more
+pub replies-append : (s : State) (lines more : List (List ℕ)) → replies_from s (lines ++ more) ≡ replies_from s lines ++ replies_from (state_from s lines) more
+replies-append s [] more = refl
+replies-append s (line ∷ lines) more =
+    ap (λ bs. said_reply s (line_said line) ++ bs) (replies-append (said_after s (line_said line)) lines more)
+    ∙ sym (append_assoc (said_reply s (line_said line)) _ _)
+
+replies_more : (s : State) (lines : List (List ℕ)) (text : List ℕ) → replies_from s (lines ++ text ∷ []) ≡ replies_from s lines ++ said_reply (state_from s lines) (line_said text)
+replies_more s lines text = replies-append s lines (text ∷ []) ∙ ap (λ bs. replies_from s lines ++ bs) (append-nil _)
+
+state_more : (s : State) (lines : List (List ℕ)) (text : List ℕ) → state_from s (lines ++ text ∷ []) ≡ said_after (state_from s lines) (line_said text)
+state_more s [] text = refl
+state_more s (line ∷ lines) text = state_more (said_after s (line_said line)) lines text
+
+-- the lines that were given out are the first of all
+front_by : (all : List ℕ) (lines : List (List ℕ)) (r : Reading) (left : List ℕ) (had : HasGiven all lines r left) → IsWhole had.given ⊎ (r.ended ≡ true) → (r.ended ≡ true → (r.pending ≡ []) × (left ≡ [])) → (more : List (List ℕ)) × (lines_of all ≡ lines ++ more)
+front_by all lines r left had (inl whole) end =
+    (lines_of (r.pending ++ left), ap lines_of had.bytes ∙ lines_of-append had.given (r.pending ++ left) whole ∙ ap (λ ls. ls ++ lines_of (r.pending ++ left)) had.cut)
+front_by all lines r left had (inr ended) end =
+    ([], lines_at_end all lines r left had (end ended).0 (end ended).1 ∙ sym (append-nil lines))
+
+pub given_front : (all : List ℕ) (lines : List (List ℕ)) (r : Reading) (left : List ℕ) → HasGiven all lines r left → (r.ended ≡ true → (r.pending ≡ []) × (left ≡ [])) → (more : List (List ℕ)) × (lines_of all ≡ lines ++ more)
+given_front all lines r left had end = front_by all lines r left had had.whole end
+
+-- a line was given out that is not yet answered
+pub record HasNext (all : List ℕ) (before : Option (List ℕ)) (engine : Engine) (r : Reading) (line : Line) (left written : Option (List ℕ)) : Type 0 where
+  pub lines : List (List ℕ)
+  pub text : List ℕ
+  pub is : IsTextOf text line
+  pub rest : List ℕ
+  pub told : left ≡ Some rest
+  pub given : HasGiven all (lines ++ text ∷ []) r rest
+  pub ended : r.ended ≡ true → rest ≡ []
+  pub stands : Stands engine (state_from first_state lines)
+  pub wrote : Appends before (replies_from first_state lines) written
+
+pub line_answered : (all : List ℕ) (before : Option (List ℕ)) (engine engine' : Engine) (r : Reading) (line : Line) (left written written' : Option (List ℕ)) (had : HasNext all before engine r line left written) → Appends written (said_reply (state_from first_state had.lines) (line_said had.text)) written' → Stands engine' (said_after (state_from first_state had.lines) (line_said had.text)) → HasAnswered all before engine' r left written'
+line_answered all before engine engine' r line left written written' had wrote stands = record {
+  lines = had.lines ++ had.text ∷ [];
+  rest = had.rest;
+  told = had.told;
+  given = had.given;
+  ended = had.ended;
+  stands = subst (Stands engine') (sym (state_more first_state had.lines had.text)) stands;
+  wrote =
+    subst (λ bs. Appends before bs written') (sym (replies_more first_state had.lines had.text))
+    (Appends-more before written written' (replies_from first_state had.lines) _ had.wrote wrote);
+}
+
+-- a front of a line's answer makes a front of all answers
+pub line_stopped : (all : List ℕ) (before : Option (List ℕ)) (engine : Engine) (r : Reading) (line : Line) (left written written' : Option (List ℕ)) (had : HasNext all before engine r line left written) → (r.ended ≡ true → r.pending ≡ []) → AppendsPrefix written (said_reply (state_from first_state had.lines) (line_said had.text)) written' → AppendsPrefix before (replies_from first_state (lines_of all)) written'
+line_stopped all before engine r line left written written' had empty front =
+    let lines = had.lines ++ had.text ∷ [] in
+    let rest = given_front all lines r had.rest had.given (λ e. (empty e, had.ended e)) in
+    subst (λ bs. AppendsPrefix before bs written') (sym (ap (replies_from first_state) rest.1 ∙ replies-append first_state lines rest.0))
+    (AppendsPrefix-wider before written' (replies_from first_state lines) _
+      (subst (λ bs. AppendsPrefix before bs written') (sym (replies_more first_state had.lines had.text))
+        (AppendsPrefix-more before written written' (replies_from first_state had.lines) _ had.wrote front)))
