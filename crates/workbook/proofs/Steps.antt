@@ -1,9 +1,8 @@
 -- Going through a book cell by cell, and the list of its formula cells.
-use Rattle.std.proofs.Common.{◌≡◌, ℕ, suc, ◌<◌, ◌≤◌, Bool, true, false, cond, ◌||◌, List, [], ◌∷◌, ◌++◌, length, Option, Some, None, is_some, refl, ap, sym, subst, ◌∙◌, arith}
-use Rattle.std.specs.List.{list_any, filter, AllByRecursion, count_by}
-use Rattle.std.specs.Map.{keys_of, lookup}
+use Rattle.std.proofs.Common.{◌≡◌, suc, Bool, true, false, cond, List, [], ◌∷◌, ◌++◌, length, Option, Some, None, is_some, refl, ap, sym, subst, ◌∙◌}
+use Rattle.std.specs.List.{list_any, filter, AllByRecursion}
+use Rattle.std.specs.Map.{keys_of}
 use Rattle.std.specs.Ordering.{is_lt, is_eq, ordering_reverse}
-use Rattle.std.specs.List.Sorted.{IsStrictlySortedBy}
 use Rattle.std.specs.declared.cmp.Ordering.{Ordering}
 use Rattle.std.specs.declared.cmp.Ordering.TheVariants.{Less, Equal, Greater}
 use Rattle.std.proofs.lemmas.Map.Keys.{sorted_head, sorted_tail, IsDistinct-from_sorted}
@@ -15,7 +14,7 @@ use Rattle.cell_refs.specs.Cell.{cell_cmp, same_cell}
 use Rattle.cell_refs.proofs.CellOrder.{cells_total}
 use Rattle.workbook.specs.declared.contents.Content.{Content}
 use Rattle.workbook.specs.Book.{IsInOrder, content_at, has_formula, is_formula, formula_cells, formula_count, cells_after, first_cell, next_cell}
-use Rattle.workbook.proofs.Cells.{same_cell_is, same_cells}
+use Rattle.workbook.proofs.Cells.{same_cells}
 use Rattle.workbook.proofs.Entries.{own_content}
 
 pub formula_cells-count : (book : List (Cell × Content)) → length (formula_cells book) ≡ formula_count book
@@ -39,9 +38,9 @@ filter_all p (e ∷ es) each = ap (λ b. cond b (e ∷ filter (λ d. p d.0) es) 
 each_kept : (P : Cell × Content → Type 0) (p : Cell × Content → Bool) (es : List (Cell × Content)) → AllByRecursion P es → AllByRecursion P (filter p es)
 each_kept P p [] each = tt
 each_kept P p (e ∷ es) each = elim (p e) as (λ b. AllByRecursion P (cond b (e ∷ filter p es) (filter p es))) [
-    | true ↦ (each.0, each_kept P p es each.1)
-    | false ↦ each_kept P p es each.1
-  ]
+  | true ↦ (each.0, each_kept P p es each.1)
+  | false ↦ each_kept P p es each.1
+]
 
 each_leads : (P Q : Cell → Type 0) → ((k : Cell) → P k → Q k) → (ks : List Cell) → AllByRecursion P ks → AllByRecursion Q ks
 each_leads P Q leads [] each = tt
@@ -50,9 +49,9 @@ each_leads P Q leads (k ∷ ks) each = (leads k each.0, each_leads P Q leads ks 
 first_in : (P : Cell → Type 0) (p : Cell → Bool) (es : List (Cell × Content)) (c : Cell) → first_cell (filter (λ e. p e.0) es) ≡ Some c → AllByRecursion P (keys_of es) → P c
 first_in P p [] c h each = cc
 first_in P p (e ∷ es) c h each = elim (p e.0) as (λ b. first_cell (cond b (e ∷ filter (λ d. p d.0) es) (filter (λ d. p d.0) es)) ≡ Some c → P c) [
-    | true ↦ λ f. let is : e.0 ≡ c = cc in subst P is each.0
-    | false ↦ λ f. first_in P p es c f each.1
-  ] h
+  | true ↦ λ f. let is : e.0 ≡ c = cc in subst P is each.0
+  | false ↦ λ f. first_in P p es c f each.1
+] h
 
 not_less : (o : Ordering) → is_eq o ≡ true → is_lt o ≡ false
 not_less Less h = cc
@@ -81,19 +80,19 @@ after_step a c (e ∷ es) ordered h =
     let tail = sorted_tail cell_cmp e.0 (keys_of es) ordered in
     let above = sorted_head cell_cmp e.0 (keys_of es) ordered in
     elim (cell_cmp a e.0) as (λ o. cell_cmp a e.0 ≡ o → first_cell (cond (is_lt o) (e ∷ filter (λ d. is_lt (cell_cmp a d.0)) es) (filter (λ d. is_lt (cell_cmp a d.0)) es)) ≡ Some c
-        → (x : Content) × (cond (is_lt o) (e ∷ filter (λ d. is_lt (cell_cmp a d.0)) es) (filter (λ d. is_lt (cell_cmp a d.0)) es) ≡ (c, x) ∷ filter (λ d. is_lt (cell_cmp c d.0)) (e ∷ es))) [
+    → (x : Content) × (cond (is_lt o) (e ∷ filter (λ d. is_lt (cell_cmp a d.0)) es) (filter (λ d. is_lt (cell_cmp a d.0)) es) ≡ (c, x) ∷ filter (λ d. is_lt (cell_cmp c d.0)) (e ∷ es))) [
       | Less ↦ λ less f.
           let is : e.0 ≡ c = cc in
           let kept = filter_all (λ k. is_lt (cell_cmp a k)) es (each_leads _ _ (λ k more. ap is_lt (cells_total.trans a e.0 k less more)) (keys_of es) above) in
           subst (λ d. (x : Content) × (e ∷ filter (λ g. is_lt (cell_cmp a g.0)) es ≡ (d, x) ∷ filter (λ g. is_lt (cell_cmp d g.0)) (e ∷ es))) is
-            (e.1, ap (λ ds. e ∷ ds) (kept ∙ sym (rest_after e es ordered)))
+          (e.1, ap (λ ds. e ∷ ds) (kept ∙ sym (rest_after e es ordered)))
       | Equal ↦ λ _ f. later above f (after_step a c es tail f)
       | Greater ↦ λ _ f. later above f (after_step a c es tail f)
     ] refl h
   where
     later : AllByRecursion (λ k. cell_cmp e.0 k ≡ Less) (keys_of es) → first_cell (filter (λ d. is_lt (cell_cmp a d.0)) es) ≡ Some c
-      → ((x : Content) × (filter (λ d. is_lt (cell_cmp a d.0)) es ≡ (c, x) ∷ filter (λ d. is_lt (cell_cmp c d.0)) es))
-      → (x : Content) × (filter (λ d. is_lt (cell_cmp a d.0)) es ≡ (c, x) ∷ filter (λ d. is_lt (cell_cmp c d.0)) (e ∷ es))
+        → ((x : Content) × (filter (λ d. is_lt (cell_cmp a d.0)) es ≡ (c, x) ∷ filter (λ d. is_lt (cell_cmp c d.0)) es))
+        → (x : Content) × (filter (λ d. is_lt (cell_cmp a d.0)) es ≡ (c, x) ∷ filter (λ d. is_lt (cell_cmp c d.0)) (e ∷ es))
     later above f r =
         let behind = greater_not_less (cell_cmp c e.0) (cell_cmp e.0 c) (cells_total.antisymm c e.0) (first_in (λ k. cell_cmp e.0 k ≡ Less) (λ k. is_lt (cell_cmp a k)) es c f above) in
         let skipped = ap (λ b. cond b (e ∷ filter (λ d. is_lt (cell_cmp c d.0)) es) (filter (λ d. is_lt (cell_cmp c d.0)) es)) behind in
@@ -135,6 +134,6 @@ next-formulas book ordered start c h =
   where
     first_formula : (x : Content) (rest : List (Cell × Content)) → formula_cells ((c, x) ∷ rest) ≡ cond (has_formula (Some x)) (c ∷ []) [] ++ formula_cells rest
     first_formula x rest = elim (has_formula (Some x)) as (λ b. keys_of (cond b ((c, x) ∷ filter (λ e. has_formula (Some e.1)) rest) (filter (λ e. has_formula (Some e.1)) rest)) ≡ cond b (c ∷ []) [] ++ formula_cells rest) [
-        | true ↦ refl
-        | false ↦ refl
-      ]
+      | true ↦ refl
+      | false ↦ refl
+    ]

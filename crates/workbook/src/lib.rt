@@ -6,6 +6,8 @@ mod commands;
 mod contents;
 mod laws;
 mod replies;
+#[cfg(test)]
+mod tests;
 
 pub use books::{Book, SetFault};
 pub use commands::{BeginKind, Command, Form};
