@@ -12,3 +12,4 @@ pub mod SourceLaws
 pub mod StdLines
 pub mod Scripts
 pub mod Sessions
+pub mod Turns

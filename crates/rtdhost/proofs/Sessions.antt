@@ -5,6 +5,7 @@ use Rattle.std.proofs.lemmas.List.{append-nil}
 use Rattle.workbook.specs.State.{State, first_state}
 use Rattle.rtdhost.specs.declared.engine.Engine.{Engine}
 use Rattle.rtdhost.specs.declared.lines.Line.{Line}
+use Rattle.rtdhost.specs.declared.script.Parsed.{Parsed}
 use Rattle.rtdhost.specs.Engine.{Stands}
 use Rattle.rtdhost.specs.Lines.{lines_of, IsWhole}
 use Rattle.rtdhost.specs.Output.{said_reply, said_after, replies_from, state_from}
@@ -16,9 +17,13 @@ use Rattle.rtdhost.proofs.GivenLaws.{lines_at_end}
 use Rattle.rtdhost.proofs.LineLaws.{lines_of-append}
 use Rattle.rtdhost.proofs.SinkLaws.{Appends-more, AppendsPrefix-more, AppendsPrefix-wider}
 
+none_if : (b : Bool) (o : Option Parsed) → b ≡ true → cond b None o ≡ None
+none_if true o h = refl
+none_if false o h = cc
+
 -- a line that is too long says nothing
 pub too_long : (text : List ℕ) → 160000 < length text → line_said text ≡ None
-too_long text long = ap (λ b. cond b None _) (lt-ltb 160000 (length text) long)
+too_long text long = none_if _ _ (lt-ltb 160000 (length text) long)
 
 -- the answers to some lines and more
 pub replies-append : (s : State) (lines more : List (List ℕ)) → replies_from s (lines ++ more) ≡ replies_from s lines ++ replies_from (state_from s lines) more

@@ -95,6 +95,7 @@ impl Session {
         ensures fault { OnOk result (self.new.lines.fault ≡ None) }
         ensures bounded { result ≡ Ok true → IsBounded self.new.engine self.new.lines }
         ensures advances { result ≡ Ok true → consumed self.old.lines < consumed self.new.lines }
+        ensures within { consumed self.new.lines ≤ 67108864 }
     {
         match self.lines.next(src) {
             Ok(line) => self.answer(line, out),
