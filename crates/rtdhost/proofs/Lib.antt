@@ -1,6 +1,7 @@
 -- Laws that the proofs of this crate share.
 pub mod Marks
 pub mod Appending
+pub mod Endings
 pub mod Evaluations
 pub mod Showing
 pub mod Completing

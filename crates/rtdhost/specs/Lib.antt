@@ -5,6 +5,7 @@ pub mod Publishing
 pub mod Recalculating
 pub mod Engine
 pub mod Lines
+pub mod Program
 pub mod Reading
 pub mod Session
 pub mod Sink

@@ -3,7 +3,6 @@ use super::put::put;
 use super::sinks::{MemorySink, Sink};
 use super::sources::{Failed, MemorySource, Source};
 use super::streams::{StdSink, StdSource};
-use super::whole_input::read_whole;
 use std::alloc::Global;
 use std::io;
 use std::io::{BufWriter, Read, Write};
@@ -92,19 +91,6 @@ fn long_lines_and_the_limit_of_the_input(rt: HostRuntime) -> Result<(), Fail> {
     let mut src = MemorySource::new(bytes, 1_000_000, Vec::new(rt.alloc()));
     let text = answers(rt.alloc(), &mut src)?;
     assert_eq!(rt; text.len(), 160_004);
-    Ok(())
-}
-
-#[test]
-fn a_whole_input_up_to_the_limit(rt: HostRuntime) -> Result<(), Fail> {
-    let bytes = Vec::from_slice(rt.alloc(), b"a\nb")?;
-    let mut src = MemorySource::new(bytes, 2, vec![in rt.alloc(); 9]?);
-    let whole = read_whole(rt.alloc(), &mut src)?;
-    assert_eq!(rt; whole.as_slice(), b"a\nb".as_slice());
-    let bytes = vec![in rt.alloc(); b'x'; 67_108_864]?;
-    let mut src = MemorySource::new(bytes, 1_000_000, Vec::new(rt.alloc()));
-    let whole = read_whole(rt.alloc(), &mut src)?;
-    assert_eq!(rt; whole.len(), 67_108_864);
     Ok(())
 }
 

@@ -1,0 +1,40 @@
+use Rattle.rtdhost.specs.Program.{texts}
+use Rattle.rtdhost.proofs.Endings.{ok_wrote, ok_read, ok_within, read_answered, limit_passed, limit_answered, front_wrote, no_cause}
+use Rattle.rtdhost.proofs.program.rtd_host_plain.Goals as goal
+
+pub returns-in-Ok-clause-ok_written : goal.returns-in-Ok-clause-ok_written
+returns-in-Ok-clause-ok_written g c input told is =
+    ok_wrote c.respond-status.result (texts c.args.words.now) input (g.O.Sink.written c.args.out.now) _ (g.O.Sink.written c.respond-status.new.out) _ (c.respond-status.ensures.ended input told) is c.finish.ensures.kept
+
+pub returns-in-Ok-clause-ok_read : goal.returns-in-Ok-clause-ok_read
+returns-in-Ok-clause-ok_read g c input told is =
+    ok_read c.respond-status.result (texts c.args.words.now) input (g.O.Sink.written c.args.out.now) _ (g.O.Sink.written c.respond-status.new.out) (c.respond-status.ensures.ended input told) is
+
+pub returns-in-Ok-clause-read_answered : goal.returns-in-Ok-clause-read_answered
+returns-in-Ok-clause-read_answered g c input told is =
+    read_answered c.respond-status.result (texts c.args.words.now) input (g.O.Sink.written c.args.out.now) _ (g.O.Sink.written c.respond-status.new.out) _ (c.respond-status.ensures.ended input told) is c.finish.ensures.kept
+
+pub returns-in-Ok-clause-limit : goal.returns-in-Ok-clause-limit
+returns-in-Ok-clause-limit g c input told is =
+    limit_passed c.respond-status.result (texts c.args.words.now) input (g.O.Sink.written c.args.out.now) _ (g.O.Sink.written c.respond-status.new.out) (c.respond-status.ensures.ended input told) is
+
+pub returns-in-Ok-clause-limit_answered : goal.returns-in-Ok-clause-limit_answered
+returns-in-Ok-clause-limit_answered g c input told is =
+    limit_answered c.respond-status.result (texts c.args.words.now) input (g.O.Sink.written c.args.out.now) _ (g.O.Sink.written c.respond-status.new.out) _ (c.respond-status.ensures.ended input told) is c.finish.ensures.kept
+
+pub returns-in-Ok-clause-within : goal.returns-in-Ok-clause-within
+returns-in-Ok-clause-within g c input told is =
+    ok_within c.respond-status.result (texts c.args.words.now) input (g.O.Sink.written c.args.out.now) _ (g.O.Sink.written c.respond-status.new.out) (c.respond-status.ensures.ended input told) is
+
+pub returns-in-Ok-clause-front : goal.returns-in-Ok-clause-front
+returns-in-Ok-clause-front g c input told =
+    front_wrote c.respond-status.result (texts c.args.words.now) input (g.O.Sink.written c.args.out.now) _ (g.O.Sink.written c.respond-status.new.out) _ (c.respond-status.ensures.ended input told) c.finish.ensures.kept
+
+pub returns-in-Ok-clause-complete : goal.returns-in-Ok-clause-complete
+returns-in-Ok-clause-complete g c input told run short read write =
+    no_cause c.respond-status.result (texts c.args.words.now) input (g.O.Sink.written c.args.out.now) _ (g.O.Sink.written c.respond-status.new.out) _ _ _ _ _
+    (c.respond-status.ensures.ended input told) c.respond-status.ensures.counted c.finish.ensures.count run short read write
+
+pub returns-in-Err-clause-front : goal.returns-in-Err-clause-front
+returns-in-Err-clause-front g c input told =
+    front_wrote c.respond-status.result (texts c.args.words.now) input (g.O.Sink.written c.args.out.now) _ (g.O.Sink.written c.respond-status.new.out) _ (c.respond-status.ensures.ended input told) c.finish.ensures.kept

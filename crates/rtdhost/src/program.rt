@@ -1,0 +1,178 @@
+//! The program: its words, the script that it reads, and the status that it ends with.
+
+ghost use Rattle.std.specs.Prelude.{◌≡◌, ◌≢◌, ◌⊎◌, ◌<◌, ◌≤◌, ℕ, List, [], Some, IfErr, OnOk, OnErr, length, take, drop, true, false};
+ghost use Rattle.std.specs.Io.KnownBytes.{Keeps};
+ghost use Rattle.workbook.specs.State.{first_state};
+ghost use Rattle.rtdhost.specs.Lines.{whole_lines};
+ghost use Rattle.rtdhost.specs.Output.{is_run, output_of, replies_from, usage_line};
+ghost use Rattle.rtdhost.specs.Program.{HasEnded, IsFaultCounted, status_of, texts};
+ghost use Rattle.rtdhost.specs.Session.{HasFinished, HasStopped, IsCaused};
+ghost use Rattle.rtdhost.specs.Sink.{Appends, AppendsPrefix, Rose};
+
+use std::alloc::Global;
+
+use super::put::put;
+use super::session::{Halt, Session};
+use super::sinks::Sink;
+use super::sources::{Failed, Source};
+
+/// How the program ends.
+#[derive(Clone, Copy, Debug, PartialEq, Eq)]
+pub enum Status {
+    /// All was read, answered and handed on.
+    Ok,
+    /// The words are not the program's.
+    Usage,
+    /// The source failed.
+    ReadFault,
+    /// The sink failed.
+    WriteFault,
+    /// Memory ran out.
+    Memory,
+    /// A byte came after 67,108,864 bytes were taken.
+    InputLimit,
+}
+
+impl Status {
+    ghost use Rattle.rtdhost.specs.Program.{exit_code};
+
+    /// The exit status of the process, from 0 to 6.
+    pub fn code(self) -> u8
+        ensures { result ≡ exit_code self }
+    {
+        match self {
+            Status::Ok => 0,
+            Status::Usage => 2,
+            Status::ReadFault => 3,
+            Status::WriteFault => 4,
+            Status::Memory => 5,
+            Status::InputLimit => 6,
+        }
+    }
+}
+
+/// Reads a script from `src` to its end, acts on each line, and writes the answers to `out`. The words are those behind
+/// the program's name: the one word `run`; for all others the usage is written, and nothing is read.
+///
+/// Where the status is Ok, the bytes written are the answers that the defined steps give to the lines read, one after
+/// the other, from an empty workbook on.
+pub fn rtd_host_plain<I: Source, O: Sink>(
+    alloc: Global,
+    words: &[String],
+    src: &mut I,
+    out: &mut O,
+) -> Status
+    // With Ok all bytes were read, and what was written is the output that is defined for them.
+    ensures ok_written { (input : List ℕ) → I.remaining src.old ≡ Some input → result ≡ Status.Ok
+        → Appends (O.written out.old) (output_of (texts words.now) input) (O.written out.new) }
+    ensures ok_read { (input : List ℕ) → I.remaining src.old ≡ Some input → result ≡ Status.Ok → I.remaining src.new ≡ Some [] }
+    ensures ok_run { result ≡ Status.Ok → is_run (texts words.now) ≡ true }
+
+    // All that was written is handed on with every status but WriteFault.
+    ensures finished { (result ≡ Status.WriteFault) ⊎ (O.is_finished out.new ≡ true) }
+
+    // Other words are answered by the usage, and nothing is read.
+    ensures usage { result ≡ Status.Usage → is_run (texts words.now) ≡ false }
+    ensures usage_line { result ≡ Status.Usage → Appends (O.written out.old) usage_line (O.written out.new) }
+    ensures refused { is_run (texts words.now) ≡ false → (result ≡ Status.Usage) ⊎ (result ≡ Status.WriteFault) }
+    ensures unread { is_run (texts words.now) ≡ false → src.new ≡ src.old }
+
+    // A failure was counted in this call.
+    ensures read_fault { result ≡ Status.ReadFault → Rose (I.faults src.old) (I.faults src.new) }
+    ensures write_fault { result ≡ Status.WriteFault → Rose (O.faults out.old) (O.faults out.new) }
+
+    // Before a failed read and at the limit, all whole lines of the bytes that were taken were answered.
+    ensures read_answered { (input : List ℕ) → I.remaining src.old ≡ Some input → result ≡ Status.ReadFault
+        → (n : ℕ) × (I.remaining src.new ≡ Some (drop n input))
+            × Appends (O.written out.old) (replies_from first_state (whole_lines (take n input))) (O.written out.new) }
+    ensures limit { (input : List ℕ) → I.remaining src.old ≡ Some input → result ≡ Status.InputLimit → 67108864 < length input }
+    ensures limit_answered { (input : List ℕ) → I.remaining src.old ≡ Some input → result ≡ Status.InputLimit
+        → Appends (O.written out.old) (replies_from first_state (whole_lines (take 67108864 input))) (O.written out.new) }
+    ensures within { (input : List ℕ) → I.remaining src.old ≡ Some input → result ≡ Status.Ok → length input ≤ 67108864 }
+
+    // With every status a front of the defined output was written, and nothing else.
+    ensures front { (input : List ℕ) → I.remaining src.old ≡ Some input
+        → AppendsPrefix (O.written out.old) (output_of (texts words.now) input) (O.written out.new) }
+
+    // With no cause for another status it is Ok, or Memory, which alone has none.
+    ensures complete { (input : List ℕ) → I.remaining src.old ≡ Some input → is_run (texts words.now) ≡ true → length input ≤ 67108864
+        → (Rose (I.faults src.old) (I.faults src.new) → ⊥) → (Rose (O.faults out.old) (O.faults out.new) → ⊥)
+        → (result ≡ Status.Ok) ⊎ (result ≡ Status.Memory) }
+{
+    let status = respond(alloc, words, src, out);
+    match out.finish() {
+        Ok(()) => status,
+        Err(_) => Status::WriteFault,
+    }
+}
+
+/// Runs the script or writes the usage.
+fn respond<I: Source, O: Sink>(
+    alloc: Global,
+    words: &[String],
+    src: &mut I,
+    out: &mut O,
+) -> Status
+    ensures ended { (input : List ℕ) → I.remaining src.old ≡ Some input
+        → HasEnded result (texts words.now) input (O.written out.old) (I.remaining src.new) (O.written out.new) }
+    ensures counted { IsFaultCounted result (I.faults src.old) (I.faults src.new) (O.faults out.old) (O.faults out.new) }
+    ensures writes { O.faults out.old ≤ O.faults out.new }
+    ensures ok { result ≡ Status.Ok → is_run (texts words.now) ≡ true }
+    ensures usage { result ≡ Status.Usage → (is_run (texts words.now) ≡ false) × Appends (O.written out.old) usage_line (O.written out.new) }
+    ensures refused { is_run (texts words.now) ≡ false → (src.new ≡ src.old) × ((result ≡ Status.Usage) ⊎ (result ≡ Status.WriteFault)) }
+{
+    if !is_run(words) {
+        return refuse(out);
+    }
+    match run(alloc, src, out) {
+        Ok(()) => Status::Ok,
+        Err(halt) => status_at(halt),
+    }
+}
+
+/// Reads a script to its end.
+fn run<I: Source, O: Sink>(alloc: Global, src: &mut I, out: &mut O) -> Result<(), Halt>
+    ensures finished { (input : List ℕ) → I.remaining src.old ≡ Some input
+        → OnOk result (HasFinished input (O.written out.old) (I.remaining src.new) (O.written out.new)) }
+    ensures stopped { (input : List ℕ) → I.remaining src.old ≡ Some input
+        → IfErr result (λ halt. HasStopped halt input (O.written out.old) (I.remaining src.new) (O.written out.new)) }
+    ensures caused { IfErr result (λ halt. IsCaused halt (I.faults src.old) (I.faults src.new) (O.faults out.old) (O.faults out.new)) }
+    ensures writes { O.faults out.old ≤ O.faults out.new }
+{
+    Session::new(alloc).read_all(src, out)
+}
+
+/// Writes the usage.
+fn refuse<O: Sink>(out: &mut O) -> Status
+    ensures usage { result ≡ Status.Usage → Appends (O.written out.old) usage_line (O.written out.new) }
+    ensures fault { result ≡ Status.WriteFault → AppendsPrefix (O.written out.old) usage_line (O.written out.new) × Rose (O.faults out.old) (O.faults out.new) }
+    ensures either { (result ≡ Status.Usage) ⊎ (result ≡ Status.WriteFault) }
+    ensures writes { O.faults out.old ≤ O.faults out.new }
+{
+    match put(out, b"usage: rtdhost run\n") {
+        Ok(()) => Status::Usage,
+        Err(_) => Status::WriteFault,
+    }
+}
+
+/// Whether the words are the one word `run`.
+fn is_run(words: &[String]) -> bool
+    ensures { result ≡ is_run (texts words.now) }
+{
+    match words {
+        [word] => word.as_str() == "run",
+        _ => false,
+    }
+}
+
+/// The status of a session that stopped early.
+fn status_at(halt: Halt) -> Status
+    ensures { result ≡ status_of halt }
+{
+    match halt {
+        Halt::Read => Status::ReadFault,
+        Halt::Write => Status::WriteFault,
+        Halt::Limit => Status::InputLimit,
+        Halt::Memory => Status::Memory,
+    }
+}

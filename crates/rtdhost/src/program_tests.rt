@@ -1,0 +1,134 @@
+use super::program::{Status, rtd_host_plain};
+use super::sinks::MemorySink;
+use super::sources::MemorySource;
+use std::alloc::Global;
+use std::process::Abort;
+use std::test::Fail;
+
+/// The status with which the words `run` end.
+fn run(alloc: Global, src: &mut MemorySource, out: &mut MemorySink) -> Result<Status, Fail> {
+    let words = vec![in alloc; String::from_str(alloc, "run")?]?;
+    Ok(rtd_host_plain(alloc, words.as_slice(), src, out))
+}
+
+/// Runs a script whose source gives so many bytes a call, and compares what was written.
+fn plays(
+    rt: &impl Abort,
+    alloc: Global,
+    script: &str,
+    piece: usize,
+    want: &str,
+) -> Result<(), Fail> {
+    let bytes = Vec::from_slice(alloc, script.as_bytes())?;
+    let mut src = MemorySource::new(bytes, piece, Vec::new(alloc));
+    let mut out = MemorySink::new(alloc, 100, Vec::new(alloc));
+    assert_eq!(rt; run(alloc, &mut src, &mut out)?, Status::Ok);
+    assert_eq!(rt; str::from_utf8(out.written())?, want, "at {script:?} by {piece}");
+    Ok(())
+}
+
+#[test]
+fn scripts_however_cut(rt: HostRuntime) -> Result<(), Fail> {
+    let table = [
+        (
+            "set A1 2\nset A2 =A1+3\ncalc\nprint\n",
+            "ok\nok\nbegun 1\ndone 1 cells 1\nA1=2\nA2=5\nend\n",
+        ),
+        ("", ""),
+        (
+            "set A1 =A2\nset A2 =1\ncalc\nprint\n",
+            "ok\nok\nbegun 1\ndone 1 cells 2\nA1=1\nA2=1\nend\n",
+        ),
+        (
+            "set A1 =B1\nset B1 =A1\ncalc\nprint\n",
+            "ok\nok\nbegun 1\ndone 1 cells 2\nA1=#CIRC!\nB1=#CIRC!\nend\n",
+        ),
+        (
+            "set A1 =999999999999999+1\ncalc\nprint\n",
+            "ok\nbegun 1\ndone 1 cells 1\nA1=#NUM!\nend\n",
+        ),
+        ("set A1 2\r\nprint", "ok\nend\n"),
+    ];
+    for (script, want) in table {
+        for piece in [1, 7, 1000] {
+            plays(&rt, rt.alloc(), script, piece, want)?;
+        }
+    }
+    Ok(())
+}
+
+#[test]
+fn only_what_a_changed_cell_reaches_is_stale(rt: HostRuntime) -> Result<(), Fail> {
+    let script = "set A1 1\nset A2 =A1\nset A3 =A2\nset B1 =5\ncalc\nset A1 2\ncalc\nprint\ncalc\n";
+    let want = "ok\nok\nok\nok\nbegun 1\ndone 1 cells 3\nok\nbegun 2\ndone 2 cells 2\n\
+        A1=2\nB1=5\nA2=2\nA3=2\nend\nbegun 3\ndone 3 cells 0\n";
+    plays(&rt, rt.alloc(), script, 1000, want)
+}
+
+#[test]
+fn lines_of_other_forms_are_bad(rt: HostRuntime) -> Result<(), Fail> {
+    let script = "jump\nset A1\nset XFE1 1\nset A1048577 1\nset A2 =7/2\nset  A1 1\n calc\ncalc \n\nset A1 1\n";
+    let bad = "bad later\nbad later\nbad later\nbad later\nbad later\nbad later\nbad later\nbad later\n";
+    let mut want = String::from_str(rt.alloc(), bad)?;
+    want.push_str("ok\n")?;
+    plays(&rt, rt.alloc(), script, 1000, want.as_str())
+}
+
+#[test]
+fn a_line_that_is_too_long_is_bad(rt: HostRuntime) -> Result<(), Fail> {
+    let mut bytes = vec![in rt.alloc(); b'x'; 160_001]?;
+    bytes.extend_from_slice(b"\n\xff\nset A1 1\n")?;
+    let mut src = MemorySource::new(bytes, 1000, Vec::new(rt.alloc()));
+    let mut out = MemorySink::new(rt.alloc(), 1, Vec::new(rt.alloc()));
+    assert_eq!(rt; run(rt.alloc(), &mut src, &mut out)?, Status::Ok);
+    assert_eq!(rt; out.written(), b"bad later\nbad later\nok\n".as_slice());
+    Ok(())
+}
+
+#[test]
+fn a_source_that_fails_at_its_second_call(rt: HostRuntime) -> Result<(), Fail> {
+    let bytes = Vec::from_slice(rt.alloc(), b"set A1 2\nset A2")?;
+    let mut src = MemorySource::new(bytes, 1000, vec![in rt.alloc(); 2]?);
+    let mut out = MemorySink::new(rt.alloc(), 1000, Vec::new(rt.alloc()));
+    assert_eq!(rt; run(rt.alloc(), &mut src, &mut out)?, Status::ReadFault);
+    assert_eq!(rt; out.written(), b"ok\n".as_slice());
+    Ok(())
+}
+
+#[test]
+fn a_sink_that_fails_at_its_first_call(rt: HostRuntime) -> Result<(), Fail> {
+    let bytes = Vec::from_slice(rt.alloc(), b"set A1 2\nset A2 =A1+3\ncalc\nprint\n")?;
+    let mut src = MemorySource::new(bytes, 1000, Vec::new(rt.alloc()));
+    let mut out = MemorySink::new(rt.alloc(), 1000, vec![in rt.alloc(); 1]?);
+    assert_eq!(rt; run(rt.alloc(), &mut src, &mut out)?, Status::WriteFault);
+    assert_eq!(rt; out.written(), b"".as_slice());
+    Ok(())
+}
+
+#[test]
+fn an_input_of_a_byte_too_many(rt: HostRuntime) -> Result<(), Fail> {
+    let bytes = vec![in rt.alloc(); b'x'; 67_108_865]?;
+    let mut src = MemorySource::new(bytes, 1_000_000, Vec::new(rt.alloc()));
+    let mut out = MemorySink::new(rt.alloc(), 1000, Vec::new(rt.alloc()));
+    assert_eq!(rt; run(rt.alloc(), &mut src, &mut out)?, Status::InputLimit);
+    assert_eq!(rt; out.written(), b"".as_slice());
+    Ok(())
+}
+
+#[test]
+fn other_words_are_answered_by_the_usage(rt: HostRuntime) -> Result<(), Fail> {
+    let lists: [&[&str]; 4] = [&[], &["runn"], &["run", "--workers"], &["help"]];
+    for list in lists {
+        let mut words = Vec::new(rt.alloc());
+        for word in list {
+            words.push(String::from_str(rt.alloc(), word)?)?;
+        }
+        let bytes = Vec::from_slice(rt.alloc(), b"set A1 2\n")?;
+        let mut src = MemorySource::new(bytes, 1000, Vec::new(rt.alloc()));
+        let mut out = MemorySink::new(rt.alloc(), 1000, Vec::new(rt.alloc()));
+        let status = rtd_host_plain(rt.alloc(), words.as_slice(), &mut src, &mut out);
+        assert_eq!(rt; status, Status::Usage);
+        assert_eq!(rt; out.written(), b"usage: rtdhost run\n".as_slice());
+    }
+    Ok(())
+}
