@@ -4,9 +4,8 @@ use Rattle.std.specs.List.{list_any, filter, count_by, AllByRecursion}
 use Rattle.std.specs.Map.{lookup, keys_of}
 use Rattle.std.specs.Option.{option_map}
 use Rattle.std.specs.BTreeMap.{insert_entry}
-use Rattle.std.specs.Ordering.{is_lt, match_ordering}
-use Rattle.std.specs.declared.cmp.Ordering.{Ordering}
-use Rattle.std.specs.declared.cmp.Ordering.TheVariants.{Less, Equal, Greater}
+use Rattle.std.specs.Ordering.{is_lt}
+use Rattle.std.specs.declared.cmp.Ordering.TheVariants.{Less}
 use Rattle.std.specs.List.Sorted.{IsStrictlySortedBy}
 use Rattle.std.specs.FinMap.Entries.{find, is_sorted, below_all, same_entries}
 use Rattle.std.proofs.lemmas.Bool.{and_parts, and_from, true≢false}
@@ -31,7 +30,7 @@ use Rattle.workbook.specs.Book.{SetsContent, named_cells}
 use Rattle.workbook.proofs.Walking.{any_alike}
 use Rattle.workbook.proofs.Reaching.{or_false}
 use Rattle.rtdhost.specs.Marking.{AddsCell}
-use Rattle.rtdhost.specs.Inputs.{ShowsOthers, IsEvaluated}
+use Rattle.rtdhost.specs.Inputs.{ShowsOthers}
 use Rattle.rtdhost.specs.Publishing.{ShowsMeaning, KeepsMeanings, ShowsConstants, ShowsStale}
 use Rattle.rtdhost.specs.Recalculating.{KeepsOthers}
 
@@ -50,9 +49,9 @@ module _ (before book : List (Cell × Content)) (changed : List Cell) (before_or
 
   unchanged_where : (q : Cell) → is_formula book q ≡ true → is_stale book changed q ≡ false → is_among changed q ≡ false
   unchanged_where q formula fresh = elim (is_among changed q) as (λ b. is_among changed q ≡ b → b ≡ false) [
-      | true ↦ λ hit. absurd (true≢false (sym (changed_stale q formula hit) ∙ fresh))
-      | false ↦ λ _. refl
-    ] refl
+    | true ↦ λ hit. absurd (true≢false (sym (changed_stale q formula hit) ∙ fresh))
+    | false ↦ λ _. refl
+  ] refl
 
   some_shown : (q : Cell) (o : Option Content) → has_formula o ≡ true → option_map (λ _. shown (meaning book q)) o ≡ Some (shown (meaning book q))
   some_shown q None h = cc
@@ -70,12 +69,12 @@ module _ (before book : List (Cell × Content)) (changed : List Cell) (before_or
       elim (is_stale book changed q) as (λ b. is_stale book changed q ≡ b → ShowsMeaning book third q) [
         | true ↦ λ e. subst (λ fs. ShowsStale book stale fs third) all stales q (formula_cells-has book ordered q ∙ (and_parts _ _ e).0) (exact q ∙ e)
         | false ↦ λ fresh. keeps_two q (elim (is_among changed q) as (λ b. is_among changed q ≡ b → ShowsMeaning book second q) [
-            | true ↦ λ hit. elim (is_formula book q) as (λ b. is_formula book q ≡ b → ShowsMeaning book second q) [
-                | true ↦ λ formula. absurd (true≢false (sym (changed_stale q formula hit) ∙ fresh))
-                | false ↦ λ constant. constants q hit constant
-              ] refl
-            | false ↦ λ unchanged. keeps_one q (still_shown first shows q unchanged fresh)
-          ] refl)
+          | true ↦ λ hit. elim (is_formula book q) as (λ b. is_formula book q ≡ b → ShowsMeaning book second q) [
+            | true ↦ λ formula. absurd (true≢false (sym (changed_stale q formula hit) ∙ fresh))
+            | false ↦ λ constant. constants q hit constant
+          ] refl
+          | false ↦ λ unchanged. keeps_one q (still_shown first shows q unchanged fresh)
+        ] refl)
       ] refl
 
 -- ---- the count of stale cells
@@ -101,6 +100,7 @@ count_formulas book p (e ∷ es) only each =
   where
     fails : (c : Cell) → is_formula book c ≡ false → p c ≡ false
     fails c constant = elim (p c) as (λ b. p c ≡ b → b ≡ false) [ true ↦ λ passes. absurd (true≢false (sym (only c passes) ∙ constant)) | false ↦ λ _. refl ] refl
+
     added : p e.0 ≡ false → count_by (λ d. p d.0) es ≡ count_by (λ d. p d.0) (e ∷ es)
     added unpassed =
         let step = sum_by-cons (λ (d : Cell × Content). cond (p d.0) 1 0) e es in
@@ -140,18 +140,18 @@ shown_keys book (e ∷ es) = ap (λ ks. e.0 ∷ ks) (shown_keys book es)
 shown_lookup : (book es : List (Cell × Content)) (q : Cell) → lookup (same_cell q) (map (λ e. (e.0, shown (meaning book e.0))) es) ≡ option_map (λ _. shown (meaning book q)) (lookup (same_cell q) es)
 shown_lookup book [] q = refl
 shown_lookup book (e ∷ es) q = elim (same_cell q e.0) as (λ b. same_cell q e.0 ≡ b
-      → cond b (Some (shown (meaning book e.0))) (lookup (same_cell q) (map (λ d. (d.0, shown (meaning book d.0))) es)) ≡ option_map (λ _. shown (meaning book q)) (cond b (Some e.1) (lookup (same_cell q) es))) [
-    | true ↦ λ is. ap (λ c. Some (shown (meaning book c))) (sym (same_cell_is q e.0 is))
-    | false ↦ λ _. shown_lookup book es q
-  ] refl
+    → cond b (Some (shown (meaning book e.0))) (lookup (same_cell q) (map (λ d. (d.0, shown (meaning book d.0))) es)) ≡ option_map (λ _. shown (meaning book q)) (cond b (Some e.1) (lookup (same_cell q) es))) [
+      | true ↦ λ is. ap (λ c. Some (shown (meaning book c))) (sym (same_cell_is q e.0 is))
+      | false ↦ λ _. shown_lookup book es q
+    ] refl
 
 -- what a sheet in order shows of each cell determines it
 pub sheet-is : (book : List (Cell × Content)) (sheet : List (Cell × Option Value)) → IsInOrder book → IsStrictlySortedBy cell_cmp (keys_of sheet) → ((c : Cell) → ShowsMeaning book sheet c) → sheet ≡ sheet_of book
 sheet-is book sheet book_ordered sheet_ordered shows =
     same_entries cell_cmp cells_total exact_cells sheet (sheet_of book)
-      (subst T (sym (sorted_where sheet sheet_ordered)) tt)
-      (subst T (sym (sorted_where (sheet_of book) (subst (IsStrictlySortedBy cell_cmp) (sym (shown_keys book book)) book_ordered))) tt)
-      (λ q. find_is q sheet ∙ shows q ∙ sym (find_is q (sheet_of book) ∙ shown_lookup book book q))
+    (subst T (sym (sorted_where sheet sheet_ordered)) tt)
+    (subst T (sym (sorted_where (sheet_of book) (subst (IsStrictlySortedBy cell_cmp) (sym (shown_keys book book)) book_ordered))) tt)
+    (λ q. find_is q sheet ∙ shows q ∙ sym (find_is q (sheet_of book) ∙ shown_lookup book book q))
 
 -- the reply and the state after a command, while no recalculation runs and while one does
 pub rest_reply : (s : State) (command : Command) → s.running ≡ false → reply_to s command ≡ reply_at_rest s command

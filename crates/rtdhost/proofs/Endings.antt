@@ -1,5 +1,5 @@
 -- What the endings of a session say of the program.
-use Rattle.std.proofs.Common.{◌≡◌, ◌⊎◌, inl, inr, ℕ, ◌<◌, ◌≤◌, Bool, true, false, cond, List, [], length, take, drop, Option, Some, None, refl, sym, ap, subst, ◌∙◌, arith, min}
+use Rattle.std.proofs.Common.{◌≡◌, ◌⊎◌, inl, inr, ℕ, ◌<◌, ◌≤◌, true, false, cond, List, [], length, take, drop, Option, Some, None, refl, sym, ap, subst, ◌∙◌, arith}
 use Rattle.std.proofs.lemmas.Bool.{false≢true}
 use Rattle.std.specs.Io.KnownBytes.{Keeps}
 use Rattle.workbook.specs.State.{first_state}
@@ -13,7 +13,7 @@ use Rattle.rtdhost.specs.Lines.{lines_of, whole_lines}
 use Rattle.rtdhost.specs.Output.{is_run, output_of, replies_from, usage_line}
 use Rattle.rtdhost.specs.Program.{HasEnded, IsFaultCounted, status_of}
 use Rattle.rtdhost.specs.Reading.{Reading}
-use Rattle.rtdhost.specs.Session.{HasAnswered, HasStopped, IsBounded}
+use Rattle.rtdhost.specs.Session.{HasAnswered, HasStopped}
 use Rattle.rtdhost.specs.Sink.{Appends, AppendsPrefix, Rose}
 use Rattle.rtdhost.proofs.GivenLaws.{HasGiven-start}
 use Rattle.rtdhost.proofs.SinkLaws.{Appends-kept, Appends-none, AppendsPrefix-all, AppendsPrefix-kept}

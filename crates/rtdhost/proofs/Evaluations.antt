@@ -1,10 +1,10 @@
 -- Evaluation in passes: what is finished has its meaning, and what is left is circular.
-use Rattle.std.proofs.Common.{◌≡◌, ℕ, zero, suc, ◌+◌, ◌<◌, ◌⊎◌, inl, inr, Bool, true, false, cond, not, ◌&&◌, ◌||◌, List, [], ◌∷◌, length, take, drop, Option, Some, None, is_some, unwrap_or, refl, ap, sym, subst, ◌∙◌, arith}
+use Rattle.std.proofs.Common.{◌≡◌, ℕ, zero, suc, ◌+◌, ◌<◌, ◌⊎◌, inl, inr, Bool, true, false, cond, not, ◌&&◌, ◌||◌, List, [], ◌∷◌, length, take, Option, Some, None, is_some, unwrap_or, refl, ap, sym, subst, ◌∙◌, arith}
 use Rattle.std.specs.List.{list_any, list_all, fold, slice_index_or, AllByRecursion}
 use Rattle.std.specs.Map.{lookup}
 use Rattle.std.specs.Option.{option_and_then, option_map}
 use Rattle.std.proofs.lemmas.Bool.{or_cases, and_parts, and_from, true≢false}
-use Rattle.std.proofs.lemmas.List.Folds.{list_any_more, list_any_at}
+use Rattle.std.proofs.lemmas.List.Folds.{list_any_more}
 use Rattle.cell_refs.specs.declared.grid.Cell.{Cell}
 use Rattle.cell_refs.specs.Cell.{same_cell}
 use Rattle.cell_refs.specs.RefText.{cell_at}
@@ -18,10 +18,10 @@ use Rattle.workbook.specs.declared.contents.Content.{Content}
 use Rattle.workbook.specs.declared.contents.Content.TheVariants as contents
 use Rattle.workbook.specs.Book.{IsInOrder, content_at, has_formula, is_formula, named_by, named_cells, formula_cells, formula_count}
 use Rattle.workbook.specs.Circular.{walks_on, is_circular}
-use Rattle.workbook.specs.Evaluation.{term_value, sum_of_terms, evaluated}
-use Rattle.workbook.specs.Meaning.{Meaning, Val, Circ, content_value, value_within, value_of, meaning, shown}
+use Rattle.workbook.specs.Evaluation.{term_value, evaluated}
+use Rattle.workbook.specs.Meaning.{Val, Circ, content_value, value_within, value_of, meaning, shown}
 use Rattle.workbook.specs.Stale.{is_among}
-use Rattle.workbook.proofs.Cells.{same_cell_is, same_cells}
+use Rattle.workbook.proofs.Cells.{same_cell_is}
 use Rattle.workbook.proofs.Walking.{any_leads, walks-formula, circular-names, circular-walks}
 use Rattle.workbook.proofs.Meanings.{none_where, content_alike, value-unfolds, shows_circle, shows_value}
 use Rattle.workbook.proofs.Steps.{formula_cells-has, formula_cells-count}
@@ -32,13 +32,13 @@ use Rattle.rtdhost.specs.Inputs.{known_content, known_formula, known_input, valu
 -- a sum, where all that is named is known, and nothing else
 sum_known : (known : Cell → Option Value) (home : ℕ) (sum : Value) (terms : List Term)
     → sum_if_known known home sum terms
-      ≡ cond (list_all (λ d. is_some (known d)) (precedents terms home)) (Some (fold (λ s t. add_of s (term_value home (λ d. unwrap_or (known d) Blank) t)) sum terms)) None
+    ≡ cond (list_all (λ d. is_some (known d)) (precedents terms home)) (Some (fold (λ s t. add_of s (term_value home (λ d. unwrap_or (known d) Blank) t)) sum terms)) None
 sum_known known home sum [] = refl
 sum_known known home sum (Number n ∷ terms) = sum_known known home (add_of sum (Number' n)) terms
 sum_known known home sum (Reference r ∷ terms) =
     elim (known (cell_at r home)) as (λ o. option_and_then (λ v. sum_if_known known home (add_of sum v) terms) o
-        ≡ cond (is_some o && list_all (λ d. is_some (known d)) (precedents terms home))
-            (Some (fold (λ s t. add_of s (term_value home (λ d. unwrap_or (known d) Blank) t)) (add_of sum (unwrap_or o Blank)) terms)) None) [
+    ≡ cond (is_some o && list_all (λ d. is_some (known d)) (precedents terms home))
+    (Some (fold (λ s t. add_of s (term_value home (λ d. unwrap_or (known d) Blank) t)) (add_of sum (unwrap_or o Blank)) terms)) None) [
       | None ↦ refl
       | Some v ↦ sum_known known home (add_of sum v) terms
     ]
@@ -53,9 +53,9 @@ pub value_known : (known : Cell → Option Value) (home : ℕ) (term : Term) (te
 value_known known home (Number n) terms = final_or_none _ _ ∙ ap (option_map final_of) (sym (sum_known known home (Number' n) terms))
 value_known known home (Reference r) terms =
     elim (known (cell_at r home)) as (λ o.
-      cond (is_some o && list_all (λ d. is_some (known d)) (precedents terms home))
-        (Some (final_of (fold (λ s t. add_of s (term_value home (λ d. unwrap_or (known d) Blank) t)) (unwrap_or o Blank) terms))) None
-      ≡ option_map final_of (option_and_then (λ v. sum_if_known known home v terms) o)) [
+    cond (is_some o && list_all (λ d. is_some (known d)) (precedents terms home))
+    (Some (final_of (fold (λ s t. add_of s (term_value home (λ d. unwrap_or (known d) Blank) t)) (unwrap_or o Blank) terms))) None
+    ≡ option_map final_of (option_and_then (λ v. sum_if_known known home v terms) o)) [
       | None ↦ refl
       | Some v ↦ final_or_none _ _ ∙ ap (option_map final_of) (sym (sum_known known home v terms))
     ]
@@ -79,15 +79,15 @@ none_of p (x ∷ xs) each = ap (λ b. b || list_any p xs) each.0 ∙ none_of p x
 some_fails : {X : Type 0} (p : X → Bool) (xs : List X) → list_all p xs ≡ false → list_any (λ x. not (p x)) xs ≡ true
 some_fails p [] h = cc
 some_fails p (x ∷ xs) h = elim (p x) as (λ b. (b && list_all p xs) ≡ false → (not b || list_any (λ y. not (p y)) xs) ≡ true) [
-    | true ↦ λ f. some_fails p xs f
-    | false ↦ λ f. refl
-  ] h
+  | true ↦ λ f. some_fails p xs f
+  | false ↦ λ f. refl
+] h
 
 pub not_circular : (book : List (Cell × Content)) (n : ℕ) (c : Cell) → is_formula book c ≡ false → walks_on book n c ≡ false
 not_circular book n c constant = elim (walks_on book n c) as (λ b. walks_on book n c ≡ b → b ≡ false) [
-    | true ↦ λ e. sym (walks-formula book n c e) ∙ constant
-    | false ↦ λ _. refl
-  ] refl
+  | true ↦ λ e. sym (walks-formula book n c e) ∙ constant
+  | false ↦ λ _. refl
+] refl
 
 pub value_constant : (book : List (Cell × Content)) (n : ℕ) (c : Cell) (o : Option Content) → content_at book c ≡ o → has_formula o ≡ false → value_within book n c ≡ content_value o c.sheet (λ _. Blank)
 value_constant book zero c o is constant = ap (λ x. content_value x c.sheet (λ _. Blank)) is
@@ -101,9 +101,9 @@ value_constant book (suc n) c o is constant = ap (λ x. content_value x c.sheet 
 -- what is shown as a value is meant so
 meant_value : (book : List (Cell × Content)) (d : Cell) (v : Value) → shown (meaning book d) ≡ Some v → (is_circular book d ≡ false) × (v ≡ value_of book d)
 meant_value book d v h = elim (is_circular book d) as (λ b. is_circular book d ≡ b → shown (cond b Circ (Val (value_of book d))) ≡ Some v → (is_circular book d ≡ false) × (v ≡ value_of book d)) [
-    | true ↦ λ e f. cc
-    | false ↦ λ e f. (e, cc)
-  ] refl h
+  | true ↦ λ e f. cc
+  | false ↦ λ e f. (e, cc)
+] refl h
 
 -- after this many passes each stale cell without a walk of as many steps is finished
 abbrev pub FinishedWithin : List (Cell × Content) → List Cell → ℕ → List (Cell × Value) → Type 0
@@ -136,9 +136,9 @@ module _ (book : List (Cell × Content)) (ordered : IsInOrder book) (stale : Lis
   known_alike : (finished : List (Cell × Value)) → AreMeant book stale finished → (d : Cell) → is_some (known_input book stale sheet finished d) ≡ true
       → (is_circular book d ≡ false) × (unwrap_or (known_input book stale sheet finished d) Blank ≡ value_of book d)
   known_alike finished meant d h = elim (known_input book stale sheet finished d) as (λ o. known_input book stale sheet finished d ≡ o → is_some o ≡ true → (is_circular book d ≡ false) × (unwrap_or o Blank ≡ value_of book d)) [
-      | None ↦ λ _ f. cc
-      | Some v ↦ λ e _. known_meant finished meant d v e
-    ] refl h
+    | None ↦ λ _ f. cc
+    | Some v ↦ λ e _. known_meant finished meant d v e
+  ] refl h
 
   ready_cases : (finished : List (Cell × Value)) → AreMeant book stale finished → (c : Cell) (v : Value) (o : Option Content) → content_at book c ≡ o
       → content_if_known (known_input book stale sheet finished) c.sheet o ≡ Some v → (is_circular book c ≡ false) × (v ≡ value_of book c)
@@ -146,25 +146,27 @@ module _ (book : List (Cell × Content)) (ordered : IsInOrder book) (stale : Lis
   ready_cases finished meant c v (Some (contents.Num n)) is h = cc
   ready_cases finished meant c v (Some (contents.Formula tree)) is h =
       elim (list_all (λ d. is_some (known_input book stale sheet finished d)) (precedents tree c.sheet)) as (λ b.
-        list_all (λ d. is_some (known_input book stale sheet finished d)) (precedents tree c.sheet) ≡ b
-        → cond b (Some (evaluated tree c.sheet (λ d. unwrap_or (known_input book stale sheet finished d) Blank))) None ≡ Some v
-        → (is_circular book c ≡ false) × (v ≡ value_of book c)) [
+      list_all (λ d. is_some (known_input book stale sheet finished d)) (precedents tree c.sheet) ≡ b
+      → cond b (Some (evaluated tree c.sheet (λ d. unwrap_or (known_input book stale sheet finished d) Blank))) None ≡ Some v
+      → (is_circular book c ≡ false) × (v ≡ value_of book c)) [
         | true ↦ λ all f. from_inputs all (shed f)
         | false ↦ λ _ f. cc
       ] refl h
     where
       shed : Some (evaluated tree c.sheet (λ d. unwrap_or (known_input book stale sheet finished d) Blank)) ≡ Some v → evaluated tree c.sheet (λ d. unwrap_or (known_input book stale sheet finished d) Blank) ≡ v
       shed f = cc
+
       named : named_cells book c ≡ precedents tree c.sheet
       named = ap (λ o. named_by o c.sheet) is
+
       from_inputs : list_all (λ d. is_some (known_input book stale sheet finished d)) (precedents tree c.sheet) ≡ true
-        → evaluated tree c.sheet (λ d. unwrap_or (known_input book stale sheet finished d) Blank) ≡ v → (is_circular book c ≡ false) × (v ≡ value_of book c)
+          → evaluated tree c.sheet (λ d. unwrap_or (known_input book stale sheet finished d) Blank) ≡ v → (is_circular book c ≡ false) × (v ≡ value_of book c)
       from_inputs all f =
           let straight : is_circular book c ≡ false =
-                circular-names book ordered c ∙ ap (list_any (is_circular book)) named
-                ∙ none_of (is_circular book) (precedents tree c.sheet) (each_passes _ _ (λ d known. (known_alike finished meant d known).0) (precedents tree c.sheet) all) in
+          circular-names book ordered c ∙ ap (list_any (is_circular book)) named
+          ∙ none_of (is_circular book) (precedents tree c.sheet) (each_passes _ _ (λ d known. (known_alike finished meant d known).0) (precedents tree c.sheet) all) in
           let alike = content_alike (Some (contents.Formula tree)) c.sheet (λ d. unwrap_or (known_input book stale sheet finished d) Blank) (value_of book)
-                (each_passes _ _ (λ d known. (known_alike finished meant d known).1) (precedents tree c.sheet) all) in
+          (each_passes _ _ (λ d known. (known_alike finished meant d known).1) (precedents tree c.sheet) all) in
           (straight, sym f ∙ alike ∙ sym (value-unfolds book c straight ∙ ap (λ o. content_value o c.sheet (value_of book)) is))
 
   -- a ready cell isn't circular, and its value is meant
@@ -175,10 +177,10 @@ module _ (book : List (Cell × Content)) (ordered : IsInOrder book) (stale : Lis
   pub meant-next : (old new : List (Cell × Value)) (cell : Cell) → AreMeant book stale old
       → ((other : Cell) (v : Value) → lookup (same_cell other) new ≡ Some v → IsFinishedOrNew book stale sheet old cell other v) → AreMeant book stale new
   meant-next old new cell meant only c v found = elim (only c v found) as (λ _. (is_among stale c ≡ true) × (is_circular book c ≡ false) × (v ≡ value_of book c)) [
-      | inl before ↦ meant c v before
-      | inr fresh ↦ subst (λ d. (is_among stale d ≡ true) × (is_circular book d ≡ false) × (v ≡ value_of book d)) (sym fresh.0)
-          (fresh.1, (ready_meant old meant cell v fresh.2).0, (ready_meant old meant cell v fresh.2).1)
-    ]
+    | inl before ↦ meant c v before
+    | inr fresh ↦ subst (λ d. (is_among stale d ≡ true) × (is_circular book d ≡ false) × (v ≡ value_of book d)) (sym fresh.0)
+        (fresh.1, (ready_meant old meant cell v fresh.2).0, (ready_meant old meant cell v fresh.2).1)
+  ]
 
   -- ---- what is left
 
@@ -219,11 +221,12 @@ module _ (book : List (Cell × Content)) (ordered : IsInOrder book) (stale : Lis
       unnot : (b : Bool) → not b ≡ true → b ≡ false
       unnot true g = cc
       unnot false g = refl
+
       circular_where : is_some (shown (meaning book d)) ≡ false → walks_on book n d ≡ true
       circular_where f = elim (is_circular book d) as (λ b. is_circular book d ≡ b → walks_on book n d ≡ true) [
-          | true ↦ λ e. circular-walks book ordered n d e
-          | false ↦ λ e. absurd (true≢false (sym (shown_straight d e) ∙ f))
-        ] refl
+        | true ↦ λ e. circular-walks book ordered n d e
+        | false ↦ λ e. absurd (true≢false (sym (shown_straight d e) ∙ f))
+      ] refl
 
   -- ---- the stale cells have formulas
   module _ (formulas : (c : Cell) → is_among stale c ≡ true → is_formula book c ≡ true) where
@@ -248,43 +251,44 @@ module _ (book : List (Cell × Content)) (ordered : IsInOrder book) (stale : Lis
     left_walks finished idle zero c e left = formulas c e
     left_walks finished idle (suc n) c e left =
         let unready : list_all (λ d. is_some (known_input book stale sheet finished d)) (named_cells book c) ≡ false =
-              false_where _ _ (λ all. idle c (formula_cells-has book ordered c ∙ formulas c e) e (ready_where finished c e ∙ all)) left in
+        false_where _ _ (λ all. idle c (formula_cells-has book ordered c ∙ formulas c e) e (ready_where finished c e ∙ all)) left in
         any_leads _ _ (λ d. known_or_walks_cases n finished d (content_at book d) refl (left_walks finished idle n d)) (named_cells book c) (some_fails _ (named_cells book c) unready)
 
     exactly : (finished : List (Cell × Value)) → AreMeant book stale finished → ((c : Cell) → is_among stale c ≡ true → is_circular book c ≡ false → is_some (lookup (same_cell c) finished) ≡ true)
         → IsEvaluated book stale finished
     exactly finished meant all c e = elim (is_circular book c) as (λ b. is_circular book c ≡ b → lookup (same_cell c) finished ≡ shown (meaning book c)) [
-        | true ↦ λ circle. none_there circle ∙ sym (ap shown (shows_circle book c circle))
-        | false ↦ λ straight. found straight (all c e straight) ∙ sym (ap shown (shows_value book c straight))
-      ] refl
+      | true ↦ λ circle. none_there circle ∙ sym (ap shown (shows_circle book c circle))
+      | false ↦ λ straight. found straight (all c e straight) ∙ sym (ap shown (shows_value book c straight))
+    ] refl
       where
         none_there : is_circular book c ≡ true → lookup (same_cell c) finished ≡ None
         none_there circle = elim (lookup (same_cell c) finished) as (λ o. lookup (same_cell c) finished ≡ o → o ≡ None) [
-            | None ↦ λ _. refl
-            | Some v ↦ λ f. absurd (true≢false (sym circle ∙ (meant c v f).1))
-          ] refl
+          | None ↦ λ _. refl
+          | Some v ↦ λ f. absurd (true≢false (sym circle ∙ (meant c v f).1))
+        ] refl
+
         found : is_circular book c ≡ false → is_some (lookup (same_cell c) finished) ≡ true → lookup (same_cell c) finished ≡ Some (value_of book c)
         found straight some = elim (lookup (same_cell c) finished) as (λ o. lookup (same_cell c) finished ≡ o → is_some o ≡ true → o ≡ Some (value_of book c)) [
-            | None ↦ λ _ h. cc
-            | Some v ↦ λ f _. ap Some (meant c v f).2
-          ] refl some
+          | None ↦ λ _ h. cc
+          | Some v ↦ λ f _. ap Some (meant c v f).2
+        ] refl some
 
     -- where a pass finished none, evaluation is complete
     pub idle-evaluated : (old new : List (Cell × Value)) (cells : List Cell) → cells ≡ formula_cells book → new ≡ old → AreMeant book stale new → FinishesReady book stale sheet old cells new → IsEvaluated book stale new
     idle-evaluated old new cells all same meant ready =
         let idle : FinishesReady book stale sheet new (formula_cells book) new =
-              subst (λ es. FinishesReady book stale sheet es (formula_cells book) new) (sym same) (subst (λ cs. FinishesReady book stale sheet old cs new) all ready) in
+        subst (λ es. FinishesReady book stale sheet es (formula_cells book) new) (sym same) (subst (λ cs. FinishesReady book stale sheet old cs new) all ready) in
         exactly new meant (λ c e straight. elim (is_some (lookup (same_cell c) new)) as (λ b. is_some (lookup (same_cell c) new) ≡ b → b ≡ true) [
-            | true ↦ λ _. refl
-            | false ↦ λ left. absurd (true≢false (sym (left_walks new idle (formula_count book) c e left) ∙ straight))
-          ] refl)
+          | true ↦ λ _. refl
+          | false ↦ λ left. absurd (true≢false (sym (left_walks new idle (formula_count book) c e left) ∙ straight))
+        ] refl)
 
     -- one more pass finishes the stale cells without a walk of one more step
     pub finished-next : (n : ℕ) (old new : List (Cell × Value)) (cells : List Cell) → cells ≡ formula_cells book → FinishedWithin book stale n old → FinishesReady book stale sheet old cells new → FinishedWithin book stale (n + 1) new
     finished-next n old new cells all within ready c e straight =
         let steps : walks_on book (suc n) c ≡ false = subst (λ m. walks_on book m c ≡ false) one_more straight in
         let known : AllByRecursion (λ d. is_some (known_input book stale sheet old d) ≡ true) (named_cells book c) =
-              none_where (walks_on book n) (λ d. is_some (known_input book stale sheet old d) ≡ true) (λ d. known_when n old d (within d)) (named_cells book c) steps in
+        none_where (walks_on book n) (λ d. is_some (known_input book stale sheet old d) ≡ true) (λ d. known_when n old d (within d)) (named_cells book c) steps in
         subst (λ cs. FinishesReady book stale sheet old cs new) all ready c (formula_cells-has book ordered c ∙ formulas c e) e (ready_where old c e ∙ all_from _ (named_cells book c) known)
       where
         one_more : n + 1 ≡ suc n
@@ -314,7 +318,7 @@ known_more book stale sheet old new keeps d None h = refl
 known_more book stale sheet old new keeps d (Some (contents.Num n)) h = refl
 known_more book stale sheet old new keeps d (Some (contents.Formula tree)) h =
     elim (is_among stale d) as (λ b. is_some (cond b (lookup (same_cell d) old) (option_and_then (λ w. w) (lookup (same_cell d) sheet))) ≡ true
-      → is_some (cond b (lookup (same_cell d) new) (option_and_then (λ w. w) (lookup (same_cell d) sheet))) ≡ true) [
+    → is_some (cond b (lookup (same_cell d) new) (option_and_then (λ w. w) (lookup (same_cell d) sheet))) ≡ true) [
       | true ↦ λ f. kept_some old new keeps d f
       | false ↦ λ f. f
     ] h
@@ -341,8 +345,8 @@ ready-next book stale sheet start old new cells i d below kept keeps done step q
       | inr last ↦
           let is : q ≡ slice_index_or cells i d = same_cell_is q (slice_index_or cells i d) last in
           subst (λ c. is_some (lookup (same_cell c) new) ≡ true) (sym is)
-            (step (subst (λ c. is_among stale c ≡ true) is e)
-              (subst (λ c. is_some (ready_value book stale sheet old c) ≡ true) is (ready_more book stale sheet start old kept q (content_at book q) ready)))
+          (step (subst (λ c. is_among stale c ≡ true) is e)
+          (subst (λ c. is_some (ready_value book stale sheet old c) ≡ true) is (ready_more book stale sheet start old kept q (content_at book q) ready)))
     ]
 
 pub kept-next : (start old new : List (Cell × Value)) → KeepsFinished start old → KeepsFinished old new → KeepsFinished start new
@@ -354,16 +358,16 @@ AddsValue old new cell value = (q : Cell) → lookup (same_cell q) new ≡ cond 
 
 pub adds-keeps : (old new : List (Cell × Value)) (cell : Cell) (value : Value) → is_some (lookup (same_cell cell) old) ≡ false → AddsValue old new cell value → KeepsFinished old new
 adds-keeps old new cell value fresh adds q h = adds q ∙ elim (same_cell cell q) as (λ b. same_cell cell q ≡ b → cond b (Some value) (lookup (same_cell q) old) ≡ lookup (same_cell q) old) [
-    | true ↦ λ e. absurd (true≢false (sym h ∙ ap (λ c. is_some (lookup (same_cell c) old)) (sym (same_cell_is cell q e)) ∙ fresh))
-    | false ↦ λ _. refl
-  ] refl
+  | true ↦ λ e. absurd (true≢false (sym h ∙ ap (λ c. is_some (lookup (same_cell c) old)) (sym (same_cell_is cell q e)) ∙ fresh))
+  | false ↦ λ _. refl
+] refl
 
 pub adds-only : (old new : List (Cell × Value)) (cell : Cell) (value : Value) → AddsValue old new cell value → (q : Cell) (v : Value) → lookup (same_cell q) new ≡ Some v
     → (lookup (same_cell q) old ≡ Some v) ⊎ ((q ≡ cell) × (Some value ≡ Some v))
 adds-only old new cell value adds q v h = elim (same_cell cell q) as (λ b. same_cell cell q ≡ b → cond b (Some value) (lookup (same_cell q) old) ≡ Some v → (lookup (same_cell q) old ≡ Some v) ⊎ ((q ≡ cell) × (Some value ≡ Some v))) [
-    | true ↦ λ e f. inr (sym (same_cell_is cell q e), f)
-    | false ↦ λ _ f. inl f
-  ] refl (sym (adds q) ∙ h)
+  | true ↦ λ e f. inr (sym (same_cell_is cell q e), f)
+  | false ↦ λ _ f. inl f
+] refl (sym (adds q) ∙ h)
 
 -- of nothing finished all is meant
 pub none-meant : (book : List (Cell × Content)) (stale : List Cell) → AreMeant book stale []

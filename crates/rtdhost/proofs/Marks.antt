@@ -24,9 +24,9 @@ adds-keeps old new cell adds q h = adds q ∙ or_true _ _ h
 
 pub adds-only : (old new : List Cell) (cell q : Cell) → AddsCell old new cell → is_among new q ≡ true → (is_among old q ≡ true) ⊎ (q ≡ cell)
 adds-only old new cell q adds h = elim (same_cell cell q) as (λ b. same_cell cell q ≡ b → cond b true (is_among old q) ≡ true → (is_among old q ≡ true) ⊎ (q ≡ cell)) [
-    | true ↦ λ e _. inr (sym (same_cell_is cell q e))
-    | false ↦ λ _ f. inl f
-  ] refl (sym (adds q) ∙ h)
+  | true ↦ λ e _. inr (sym (same_cell_is cell q e))
+  | false ↦ λ _ f. inl f
+] refl (sym (adds q) ∙ h)
 
 or_right : (a b : Bool) → b ≡ true → (a || b) ≡ true
 or_right true b h = refl
@@ -56,25 +56,25 @@ touched-next book changed start old new cells i d below kept keeps done marked q
 
 hot_reaches : (book : List (Cell × Content)) → IsInOrder book → (changed marks : List Cell) → AreStale book changed marks → (d : Cell) → is_hot changed marks d ≡ true → reaches book changed (formula_count book) d ≡ true
 hot_reaches book ordered changed marks stale d h = elim (or_cases (is_among changed d) (is_among marks d) h) as (λ _. reaches book changed (formula_count book) d ≡ true) [
-    | inl hit ↦ reaches-among book ordered changed (formula_count book) d hit
-    | inr marked ↦ (and_parts _ _ (stale d marked)).1
-  ]
+  | inl hit ↦ reaches-among book ordered changed (formula_count book) d hit
+  | inr marked ↦ (and_parts _ _ (stale d marked)).1
+]
 
 -- a formula cell that is touched, where only stale cells are marked, is stale
 pub touched-stale : (book : List (Cell × Content)) → IsInOrder book → (changed marks : List Cell) → AreStale book changed marks → (cell : Cell) → is_formula book cell ≡ true → is_touched book changed marks cell ≡ true → is_stale book changed cell ≡ true
 touched-stale book ordered changed marks stale cell formula touched =
     and_from _ _ formula (sym (reaches-enough book ordered changed cell)
-      ∙ or_leads (is_among changed cell) _ _ (any_leads _ _ (hot_reaches book ordered changed marks stale) (named_cells book cell)) touched)
+    ∙ or_leads (is_among changed cell) _ _ (any_leads _ _ (hot_reaches book ordered changed marks stale) (named_cells book cell)) touched)
 
 -- what is reached in some steps is changed or marked, where marking stopped
 pub closed-reached : (book : List (Cell × Content)) → IsInOrder book → (changed marks : List Cell) → MarksTouched book changed marks (formula_cells book) marks
     → (n : ℕ) (c : Cell) → reaches book changed n c ≡ true → is_hot changed marks c ≡ true
 closed-reached book ordered changed marks closed zero c h = or_left _ _ h
 closed-reached book ordered changed marks closed (suc n) c h = elim (is_formula book c) as (λ b. is_formula book c ≡ b → is_hot changed marks c ≡ true) [
-    | true ↦ λ formula. or_right _ _ (closed c (formula_cells-has book ordered c ∙ formula)
-        (or_leads (is_among changed c) _ _ (any_leads _ _ (closed-reached book ordered changed marks closed n) (named_cells book c)) h))
-    | false ↦ λ constant. or_left _ _ (sym (reaches-constant book changed (suc n) c constant) ∙ h)
-  ] refl
+  | true ↦ λ formula. or_right _ _ (closed c (formula_cells-has book ordered c ∙ formula)
+      (or_leads (is_among changed c) _ _ (any_leads _ _ (closed-reached book ordered changed marks closed n) (named_cells book c)) h))
+  | false ↦ λ constant. or_left _ _ (sym (reaches-constant book changed (suc n) c constant) ∙ h)
+] refl
 
 -- after this many passes each cell that is reached in as many steps is changed or marked
 abbrev pub HotWithin : List (Cell × Content) → List Cell → ℕ → List Cell → Type 0
@@ -82,10 +82,10 @@ HotWithin book changed n marks = (c : Cell) → reaches book changed n c ≡ tru
 
 pub hot-next : (book : List (Cell × Content)) → IsInOrder book → (changed old new : List Cell) (n : ℕ) → HotWithin book changed n old → MarksTouched book changed old (formula_cells book) new → HotWithin book changed (n + 1) new
 hot-next book ordered changed old new n hot marked c h = elim (is_formula book c) as (λ b. is_formula book c ≡ b → is_hot changed new c ≡ true) [
-    | true ↦ λ formula. or_right _ _ (marked c (formula_cells-has book ordered c ∙ formula)
-        (or_leads (is_among changed c) _ _ (any_leads _ _ hot (named_cells book c)) (subst (λ m. reaches book changed m c ≡ true) one_more h)))
-    | false ↦ λ constant. or_left _ _ (sym (reaches-constant book changed (n + 1) c constant) ∙ h)
-  ] refl
+  | true ↦ λ formula. or_right _ _ (marked c (formula_cells-has book ordered c ∙ formula)
+      (or_leads (is_among changed c) _ _ (any_leads _ _ hot (named_cells book c)) (subst (λ m. reaches book changed m c ≡ true) one_more h)))
+  | false ↦ λ constant. or_left _ _ (sym (reaches-constant book changed (n + 1) c constant) ∙ h)
+] refl
   where
     one_more : n + 1 ≡ suc n
     one_more = omega arith
@@ -111,11 +111,11 @@ exactly-stale book changed marks only hot direct c = both_ways _ _ (only c) (λ 
 pub stale-next : (book : List (Cell × Content)) → IsInOrder book → (changed old new cells : List Cell) (i : ℕ) (d : Cell) → i < length cells → AreFormulas book cells
     → AreStale book changed old → ((other : Cell) → is_among new other ≡ true → IsMarkedOrNew book changed old (slice_index_or cells i d) other) → AreStale book changed new
 stale-next book ordered changed old new cells i d below formulas stale only q among = elim (only q among) as (λ _. is_stale book changed q ≡ true) [
-    | inl marked ↦ stale q marked
-    | inr added ↦ subst (λ e. is_stale book changed e ≡ true) (sym added.0)
-        (touched-stale book ordered changed old stale (slice_index_or cells i d)
-          (formulas (slice_index_or cells i d) (list_any_at (same_cell (slice_index_or cells i d)) cells i d below (same_cells.refl (slice_index_or cells i d)))) added.1)
-  ]
+  | inl marked ↦ stale q marked
+  | inr added ↦ subst (λ e. is_stale book changed e ≡ true) (sym added.0)
+      (touched-stale book ordered changed old stale (slice_index_or cells i d)
+      (formulas (slice_index_or cells i d) (list_any_at (same_cell (slice_index_or cells i d)) cells i d below (same_cells.refl (slice_index_or cells i d)))) added.1)
+]
 
 -- nothing is marked in an empty list
 pub none-stale : (book : List (Cell × Content)) (changed : List Cell) → AreStale book changed []
@@ -132,7 +132,7 @@ pub idle-stale : (book : List (Cell × Content)) → IsInOrder book → (changed
     → MarksTouched book changed old cells new → AreStale book changed new → (c : Cell) → is_among new c ≡ is_stale book changed c
 idle-stale book ordered changed old new cells all same marked stale =
     let closed : MarksTouched book changed new (formula_cells book) new =
-          subst (λ xs. MarksTouched book changed xs (formula_cells book) new) (sym same) (subst (λ xs. MarksTouched book changed old xs new) all marked) in
+    subst (λ xs. MarksTouched book changed xs (formula_cells book) new) (sym same) (subst (λ xs. MarksTouched book changed old xs new) all marked) in
     exactly-stale book changed new stale (closed-reached book ordered changed new closed (formula_count book)) (marks-changed book ordered changed new new closed)
 
 some_where : {X : Type 0} (p : X → Bool) (xs : List X) → list_any p xs ≡ true → 0 < length xs
@@ -145,6 +145,6 @@ pub all-stale : (book : List (Cell × Content)) → IsInOrder book → (changed 
 all-stale book ordered changed marks cells n all count stale hot direct =
     let counted : n ≡ formula_count book = count ∙ ap length all ∙ formula_cells-count book in
     exactly-stale book changed marks stale (subst (λ m. HotWithin book changed m marks) counted hot)
-      (λ c formula hit.
-        let some : 0 < length (formula_cells book) = some_where (same_cell c) (formula_cells book) (formula_cells-has book ordered c ∙ formula) in
-        direct (subst (λ m. 0 < m) (sym (count ∙ ap length all)) some) c formula hit)
+    (λ c formula hit.
+    let some : 0 < length (formula_cells book) = some_where (same_cell c) (formula_cells book) (formula_cells-has book ordered c ∙ formula) in
+    direct (subst (λ m. 0 < m) (sym (count ∙ ap length all)) some) c formula hit)

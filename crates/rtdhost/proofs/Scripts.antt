@@ -1,5 +1,5 @@
 -- What lines say.
-use Rattle.std.proofs.Common.{◌≡◌, ◌≢◌, ℕ, ◌≤◌, ◌⊎◌, inl, inr, Bool, true, false, cond, List, length, Option, Some, None, Result, Ok, Err, IfOk, eqb, ltb, refl, ap, sym, subst, ◌∙◌, arith}
+use Rattle.std.proofs.Common.{◌≡◌, ◌≢◌, ℕ, ◌≤◌, ◌⊎◌, inl, inr, Bool, true, false, cond, List, length, Option, Some, None, Result, Err, IfOk, eqb, ltb, refl, ap, sym, subst, ◌∙◌}
 use Rattle.std.specs.Result.{result_ok}
 use Rattle.std.specs.Str.{IsUtf8}
 use Rattle.std.specs.Str.Lossy.{utf8_valid_len}
@@ -14,9 +14,8 @@ use Rattle.formula_parse.proofs.ParseLaws.{parsed_formula}
 use Rattle.rtdhost.specs.declared.script.Parsed.{Parsed}
 use Rattle.rtdhost.specs.declared.script.Parsed.TheVariants.{Empty}
 use Rattle.rtdhost.specs.declared.script.BadLine.{BadLine}
-use Rattle.rtdhost.specs.declared.script.BadLine.TheVariants.{Later}
 use Rattle.workbook.specs.declared.contents.Content.{Content}
-use Rattle.rtdhost.specs.Script.{words_said, line_said, is_utf8}
+use Rattle.rtdhost.specs.Script.{words_said, line_said}
 
 at_most : (b : Bool) (o : Option Parsed) → b ≡ false → cond b None o ≡ o
 at_most true o h = cc

@@ -1,5 +1,5 @@
 -- What one line more does to what a session has answered and written.
-use Rattle.std.proofs.Common.{◌≡◌, ℕ, ◌<◌, ◌⊎◌, inl, inr, Bool, true, false, cond, List, [], ◌∷◌, ◌++◌, length, Option, Some, None, refl, sym, ap, subst, ◌∙◌, append_assoc, arith}
+use Rattle.std.proofs.Common.{◌≡◌, ℕ, ◌<◌, ◌⊎◌, inl, inr, Bool, true, false, cond, List, [], ◌∷◌, ◌++◌, length, Option, Some, None, refl, sym, ap, subst, ◌∙◌, append_assoc}
 use Rattle.std.proofs.lemmas.Bool.{lt-ltb}
 use Rattle.std.proofs.lemmas.List.{append-nil}
 use Rattle.workbook.specs.State.{State, first_state}
@@ -70,8 +70,8 @@ line_answered all before engine engine' r line left written written' had wrote s
   ended = had.ended;
   stands = subst (Stands engine') (sym (state_more first_state had.lines had.text)) stands;
   wrote =
-    subst (λ bs. Appends before bs written') (sym (replies_more first_state had.lines had.text))
-    (Appends-more before written written' (replies_from first_state had.lines) _ had.wrote wrote);
+      subst (λ bs. Appends before bs written') (sym (replies_more first_state had.lines had.text))
+      (Appends-more before written written' (replies_from first_state had.lines) _ had.wrote wrote);
 }
 
 -- a front of a line's answer makes a front of all answers
@@ -81,5 +81,5 @@ line_stopped all before engine r line left written written' had empty front =
     let rest = given_front all lines r had.rest had.given (λ e. (empty e, had.ended e)) in
     subst (λ bs. AppendsPrefix before bs written') (sym (ap (replies_from first_state) rest.1 ∙ replies-append first_state lines rest.0))
     (AppendsPrefix-wider before written' (replies_from first_state lines) _
-      (subst (λ bs. AppendsPrefix before bs written') (sym (replies_more first_state had.lines had.text))
-        (AppendsPrefix-more before written written' (replies_from first_state had.lines) _ had.wrote front)))
+    (subst (λ bs. AppendsPrefix before bs written') (sym (replies_more first_state had.lines had.text))
+    (AppendsPrefix-more before written written' (replies_from first_state had.lines) _ had.wrote front)))

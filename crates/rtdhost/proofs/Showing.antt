@@ -1,25 +1,24 @@
 -- What a sheet shows after one more cell is shown, and when it is the sheet of the book.
-use Rattle.std.proofs.Common.{◌≡◌, ℕ, ◌+◌, ◌<◌, ◌⊎◌, inl, inr, Bool, true, false, cond, ◌&&◌, ◌||◌, List, [], ◌∷◌, length, take, map, Option, Some, None, refl, ap, sym, subst, ◌∙◌, arith}
-use Rattle.std.specs.List.{list_any, slice_index_or, AllByRecursion}
-use Rattle.std.specs.Map.{lookup, keys_of}
+use Rattle.std.proofs.Common.{◌≡◌, ℕ, ◌+◌, ◌<◌, inl, inr, true, false, cond, List, length, take, Option, Some, None, refl, ap, sym, subst, ◌∙◌}
+use Rattle.std.specs.List.{slice_index_or}
+use Rattle.std.specs.Map.{lookup}
 use Rattle.std.specs.Option.{option_map}
-use Rattle.std.specs.List.Sorted.{IsStrictlySortedBy}
 use Rattle.std.proofs.lemmas.Bool.{or_cases, true≢false}
 use Rattle.std.proofs.lemmas.List.Folds.{list_any_more}
 use Rattle.cell_refs.specs.declared.grid.Cell.{Cell}
-use Rattle.cell_refs.specs.Cell.{cell_cmp, same_cell}
+use Rattle.cell_refs.specs.Cell.{same_cell}
 use Rattle.cell_values.specs.declared.values.Value.{Value}
 use Rattle.cell_values.specs.declared.values.Value.TheVariants.{Num as Number'}
 use Rattle.workbook.specs.declared.contents.Content.{Content}
 use Rattle.workbook.specs.declared.contents.Content.TheVariants as contents
-use Rattle.workbook.specs.Book.{IsInOrder, content_at, has_formula, is_formula, formula_cells, formula_count}
-use Rattle.workbook.specs.Meaning.{Val, meaning, shown, value_of}
+use Rattle.workbook.specs.Book.{content_at, has_formula, is_formula, formula_count}
+use Rattle.workbook.specs.Meaning.{meaning, shown}
 use Rattle.workbook.specs.Stale.{is_among}
 use Rattle.workbook.proofs.Cells.{same_cell_is, same_cells}
 use Rattle.workbook.proofs.Meanings.{shows_value}
 use Rattle.rtdhost.proofs.Evaluations.{not_circular, value_constant}
 use Rattle.rtdhost.specs.Inputs.{IsEvaluated, known_content}
-use Rattle.rtdhost.specs.Publishing.{ShowsMeaning, KeepsMeanings, ShowsConstants, ShowsStale, ShowsAt, ShowsIfStale}
+use Rattle.rtdhost.specs.Publishing.{ShowsMeaning, KeepsMeanings, ShowsStale, ShowsAt, ShowsIfStale}
 
 -- a cell is shown its meaning
 pub shows-at : (book : List (Cell × Content)) (old new : List (Cell × Option Value)) (cell : Cell) (value : Option Value) → ShowsAt old new cell value
@@ -29,9 +28,9 @@ shows-at book old new cell value at right = at cell ∙ ap (λ b. cond b (Some v
 pub keeps-at : (book : List (Cell × Content)) (old new : List (Cell × Option Value)) (cell : Cell) (value : Option Value) → ShowsAt old new cell value
     → Some value ≡ option_map (λ _. shown (meaning book cell)) (content_at book cell) → KeepsMeanings book old new
 keeps-at book old new cell value at right q h = elim (same_cell cell q) as (λ b. same_cell cell q ≡ b → ShowsMeaning book new q) [
-    | true ↦ λ e. subst (λ c. ShowsMeaning book new c) (same_cell_is cell q e) (shows-at book old new cell value at right)
-    | false ↦ λ e. at q ∙ ap (λ b. cond b (Some value) (lookup (same_cell q) old)) e ∙ h
-  ] refl
+  | true ↦ λ e. subst (λ c. ShowsMeaning book new c) (same_cell_is cell q e) (shows-at book old new cell value at right)
+  | false ↦ λ e. at q ∙ ap (λ b. cond b (Some value) (lookup (same_cell q) old)) e ∙ h
+] refl
 
 -- a cell without content is taken off
 abbrev pub TakesOff : List (Cell × Option Value) → List (Cell × Option Value) → Cell → Type 0
@@ -43,9 +42,9 @@ shows-off book old new cell off none =
 
 pub keeps-off : (book : List (Cell × Content)) (old new : List (Cell × Option Value)) (cell : Cell) → TakesOff old new cell → content_at book cell ≡ None → KeepsMeanings book old new
 keeps-off book old new cell off none q h = elim (same_cell cell q) as (λ b. same_cell cell q ≡ b → ShowsMeaning book new q) [
-    | true ↦ λ e. subst (λ c. ShowsMeaning book new c) (same_cell_is cell q e) (shows-off book old new cell off none)
-    | false ↦ λ e. off q ∙ ap (λ b. cond b None (lookup (same_cell q) old)) e ∙ h
-  ] refl
+  | true ↦ λ e. subst (λ c. ShowsMeaning book new c) (same_cell_is cell q e) (shows-off book old new cell off none)
+  | false ↦ λ e. off q ∙ ap (λ b. cond b None (lookup (same_cell q) old)) e ∙ h
+] refl
 
 -- what a constant shows
 pub constant-right : (book : List (Cell × Content)) (cell : Cell) (x : Content) (v : Value) → content_at book cell ≡ Some x → known_content (Some x) None ≡ Some v
@@ -54,7 +53,7 @@ constant-right book cell (contents.Num n) v found is =
     let same : Number' n ≡ v = cc in
     let straight = not_circular book (formula_count book) cell (ap has_formula found) in
     sym (ap (option_map (λ _. shown (meaning book cell))) found
-      ∙ ap Some (ap shown (shows_value book cell straight) ∙ ap Some (value_constant book (formula_count book) cell (Some (contents.Num n)) found refl ∙ same)))
+    ∙ ap Some (ap shown (shows_value book cell straight) ∙ ap Some (value_constant book (formula_count book) cell (Some (contents.Num n)) found refl ∙ same)))
 constant-right book cell (contents.Formula tree) v found is = cc
 
 -- a content that is no constant is a formula
@@ -75,11 +74,11 @@ stale-right book stale finished evaluated cell e formula = ap Some (evaluated ce
 stale-step : (book : List (Cell × Content)) (stale : List Cell) (finished : List (Cell × Value)) → IsEvaluated book stale finished → ((c : Cell) → is_among stale c ≡ true → is_formula book c ≡ true)
     → (cell : Cell) (old new : List (Cell × Option Value)) → ShowsIfStale stale finished cell old new → KeepsMeanings book old new × (is_among stale cell ≡ true → ShowsMeaning book new cell)
 stale-step book stale finished evaluated formulas cell old new step = elim (is_among stale cell) as (λ b. is_among stale cell ≡ b → KeepsMeanings book old new × (is_among stale cell ≡ true → ShowsMeaning book new cell)) [
-    | true ↦ λ e.
-        let right = stale-right book stale finished evaluated cell e (formulas cell e) in
-        (keeps-at book old new cell _ (step.0 e) right, λ _. shows-at book old new cell _ (step.0 e) right)
-    | false ↦ λ e. ((λ q h. subst (λ es. ShowsMeaning book es q) (sym (step.1 e)) h), λ f. absurd (true≢false (sym f ∙ e)))
-  ] refl
+  | true ↦ λ e.
+      let right = stale-right book stale finished evaluated cell e (formulas cell e) in
+      (keeps-at book old new cell _ (step.0 e) right, λ _. shows-at book old new cell _ (step.0 e) right)
+  | false ↦ λ e. ((λ q h. subst (λ es. ShowsMeaning book es q) (sym (step.1 e)) h), λ f. absurd (true≢false (sym f ∙ e)))
+] refl
 
 -- one more of the cells is shown
 pub stale-next : (book : List (Cell × Content)) (stale : List Cell) (finished : List (Cell × Value)) → IsEvaluated book stale finished → ((c : Cell) → is_among stale c ≡ true → is_formula book c ≡ true)
@@ -87,11 +86,12 @@ pub stale-next : (book : List (Cell × Content)) (stale : List Cell) (finished :
     → KeepsMeanings book start old × ShowsStale book stale (take i cells) old → ShowsIfStale stale finished (slice_index_or cells i d) old new
     → KeepsMeanings book start new × ShowsStale book stale (take (i + 1) cells) new
 stale-next book stale finished evaluated formulas start old new cells i d below so_far step =
-    let both = stale-step book stale finished evaluated formulas (slice_index_or cells i d) old new step in
-    ((λ q h. both.0 q (so_far.0 q h)),
-     λ q among e. elim (or_cases (is_among (take i cells) q) (same_cell q (slice_index_or cells i d)) (sym (list_any_more (same_cell q) cells i d below) ∙ among)) as (λ _. ShowsMeaning book new q) [
+    let both = stale-step book stale finished evaluated formulas (slice_index_or cells i d) old new step in (
+      (λ q h. both.0 q (so_far.0 q h)),
+      λ q among e. elim (or_cases (is_among (take i cells) q) (same_cell q (slice_index_or cells i d)) (sym (list_any_more (same_cell q) cells i d below) ∙ among)) as (λ _. ShowsMeaning book new q) [
         | inl before ↦ both.0 q (so_far.1 q before e)
         | inr last ↦
             let is : q ≡ slice_index_or cells i d = same_cell_is q (slice_index_or cells i d) last in
             subst (λ c. ShowsMeaning book new c) (sym is) (both.1 (subst (λ c. is_among stale c ≡ true) is e))
-      ])
+      ],
+    )

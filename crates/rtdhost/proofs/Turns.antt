@@ -1,7 +1,6 @@
 -- What a reader's answer does to a session.
 use Rattle.std.proofs.Common.{◌≡◌, ℕ, ◌+◌, ◌<◌, ◌≤◌, Bool, true, false, List, [], ◌∷◌, ◌++◌, length, take, drop, Option, Some, None, Result, Ok, Err, IfErr, IfSome, OnOk, OnErr, MatchResult, refl, sym, ap, subst, ◌∙◌, append_assoc, length-append, arith}
 use Rattle.std.proofs.lemmas.Bool.{false≢true}
-use Rattle.std.proofs.lemmas.List.{append-nil}
 use Rattle.std.proofs.Math.Seq.{drop-append_seam}
 use Rattle.std.specs.Io.KnownBytes.{IsAtEnd, Keeps}
 use Rattle.workbook.specs.State.{State, first_state}
@@ -139,12 +138,13 @@ reader_whole all before engine old new left left' written faults.Memory had goin
 
 -- a reader that gives no more lines stops the session
 pub reader_stopped : (all : List ℕ) (before : Option (List ℕ)) (engine : Engine) (old new : Reading) (left left' written : Option (List ℕ)) (fault : LineFault) (halt : Halt) → HasAnswered all before engine old left written → old.ended ≡ false → halt ≡ halt_of fault → Leaves fault (held old) (held new) left left' → (fault ≡ faults.Limit → IfSome left (λ rest. 67108864 < old.taken + length rest)) → HasStopped halt all before left' written
-reader_stopped all before engine old new left left' written fault halt had going is leaves over =
-    (front_written all before engine old left written had going,
-      subst (λ h. HasAnsweredWhole h all before left' written) (sym is)
-        (reader_whole all before engine old new left left' written fault had going
-          (subst (λ l. Leaves fault (held old) (held new) l left') had.told leaves)
-          (λ e. subst (λ l. IfSome l (λ rest. 67108864 < old.taken + length rest)) had.told (over e))))
+reader_stopped all before engine old new left left' written fault halt had going is leaves over = (
+  front_written all before engine old left written had going,
+  subst (λ h. HasAnsweredWhole h all before left' written) (sym is)
+      (reader_whole all before engine old new left left' written fault had going
+      (subst (λ l. Leaves fault (held old) (held new) l left') had.told leaves)
+      (λ e. subst (λ l. IfSome l (λ rest. 67108864 < old.taken + length rest)) had.told (over e))),
+)
 
 no_front : (xs ys : List ℕ) → xs ++ ys ≡ [] → xs ≡ []
 no_front [] ys h = refl
@@ -172,6 +172,6 @@ reader_finished all before engine old new left left' written written' line raw h
       within = fits;
       read = m.1 ∙ ap Some e.2;
       wrote =
-        Appends-kept before written written' _
-        (subst (λ ls. Appends before (replies_from first_state ls) written) (sym (lines_at_end all had.lines old had.rest had.given e.0 e.1)) had.wrote) kept;
+          Appends-kept before written written' _
+          (subst (λ ls. Appends before (replies_from first_state ls) written) (sym (lines_at_end all had.lines old had.rest had.given e.0 e.1)) had.wrote) kept;
     }

@@ -1,9 +1,7 @@
 -- What the engine keeps of the host's state.
-use Rattle.std.specs.Prelude.{◌≡◌, Bool, false, List}
-use Rattle.std.specs.List.Sorted.{IsStrictlySortedBy}
+use Rattle.std.specs.Prelude.{◌≡◌}
 use Rattle.cell_refs.specs.declared.grid.Cell.{Cell}
-use Rattle.workbook.specs.declared.contents.Content.{Content}
-use Rattle.workbook.specs.Book.{IsInOrder, content_at}
+use Rattle.workbook.specs.Book.{IsInOrder}
 use Rattle.workbook.specs.Stale.{is_among}
 use Rattle.workbook.specs.State.{State}
 use Rattle.rtdhost.specs.declared.engine.Engine.{Engine}

@@ -1,5 +1,5 @@
 -- How stale cells are marked.
-use Rattle.std.specs.Prelude.{◌≡◌, ℕ, Bool, true, if◌then◌else◌, ◌||◌, ◌⊎◌, List}
+use Rattle.std.specs.Prelude.{◌≡◌, Bool, true, if◌then◌else◌, ◌||◌, ◌⊎◌, List}
 use Rattle.std.specs.List.{list_any}
 use Rattle.cell_refs.specs.declared.grid.Cell.{Cell}
 use Rattle.cell_refs.specs.Cell.{same_cell}

@@ -1,5 +1,5 @@
 -- With which status the program ends, and what it has written then.
-use Rattle.std.specs.Prelude.{◌≡◌, ◌⊎◌, ℕ, Bool, true, false, Option, Some, List, map, String, string_bytes}
+use Rattle.std.specs.Prelude.{◌≡◌, ℕ, true, false, Option, List, map, String, string_bytes}
 use Rattle.std.specs.declared.alloc.Global.{Global}
 use Rattle.rtdhost.specs.declared.program.Status.{Status}
 use Rattle.rtdhost.specs.declared.program.Status.TheVariants as statuses

@@ -1,5 +1,5 @@
 -- How a completed recalculation is shown.
-use Rattle.std.specs.Prelude.{◌≡◌, Bool, true, false, Option, Some, if◌then◌else◌, List}
+use Rattle.std.specs.Prelude.{◌≡◌, true, false, Option, Some, if◌then◌else◌, List}
 use Rattle.std.specs.Option.{option_map}
 use Rattle.std.specs.Map.{lookup}
 use Rattle.cell_refs.specs.declared.grid.Cell.{Cell}

@@ -1,6 +1,6 @@
 -- What a session has read and written, and where it stops.
-use Rattle.std.specs.Prelude.{◌≡◌, ℕ, ◌*◌, ◌<◌, ◌≤◌, Bool, true, false, Option, Some, None, List, [], length, take, drop}
-use Rattle.workbook.specs.State.{State, first_state}
+use Rattle.std.specs.Prelude.{◌≡◌, ℕ, ◌*◌, ◌<◌, ◌≤◌, Bool, true, false, Option, Some, List, [], length, take, drop}
+use Rattle.workbook.specs.State.{first_state}
 use Rattle.rtdhost.specs.declared.engine.Engine.{Engine}
 use Rattle.rtdhost.specs.declared.lines.Line.{Line}
 use Rattle.rtdhost.specs.declared.lines.Line.TheVariants as answers

@@ -7,14 +7,12 @@ ghost use Rattle.rtdhost.specs.Replies.{line_of, reply_text};
 ghost use Rattle.rtdhost.specs.Script.{line_said};
 ghost use Rattle.workbook.specs.State.{State, reply_to, state_after};
 
-use std::alloc::Global;
-
-use cell_values::Memory;
-use workbook::{BeginKind, Command};
-
 use super::engine::Engine;
 use super::replies::{write_line, write_reply};
 use super::script::{BadLine, Parsed, read_line};
+use cell_values::Memory;
+use std::alloc::Global;
+use workbook::{BeginKind, Command};
 
 /// Acts on a line without its end and appends what it is answered with. A refusal leaves `out` as it was.
 pub fn answer(

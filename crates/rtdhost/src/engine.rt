@@ -8,15 +8,13 @@ ghost use Rattle.rtdhost.specs.Marking.{AddsCell};
 ghost use Rattle.workbook.specs.Meaning.{sheet_of};
 ghost use Rattle.workbook.specs.State.{State, first_state, reply_to, state_after};
 
-use std::alloc::Global;
-use std::collections::{BTreeMap, BTreeSet};
-
-use cell_refs::Cell;
-use cell_values::{Memory, Value};
-use workbook::{BeginKind, Book, Command, Content, Form, Reply, SheetCells};
-
 use super::evaluating::copied;
 use super::recalculating::recalculate;
+use cell_refs::Cell;
+use cell_values::{Memory, Value};
+use std::alloc::Global;
+use std::collections::{BTreeMap, BTreeSet};
+use workbook::{BeginKind, Book, Command, Content, Form, Reply, SheetCells};
 
 /// The book, the cells that were changed since the last completed recalculation, the sheet that it left, its
 /// number, and whether one runs.
@@ -126,10 +124,7 @@ impl Engine {
 }
 
 /// The cells of a sheet in order.
-fn sheet_cells(
-    alloc: Global,
-    sheet: &BTreeMap<Cell, Option<Value>>,
-) -> Result<SheetCells, Memory>
+fn sheet_cells(alloc: Global, sheet: &BTreeMap<Cell, Option<Value>>) -> Result<SheetCells, Memory>
     ensures cells { IfOk result (λ cells. cells ≡ sheet.now.entries) }
     ensures ordered { OnOk result (IsOrdered cell_cmp sheet.now) }
 {

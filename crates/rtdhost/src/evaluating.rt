@@ -11,12 +11,11 @@ ghost use Rattle.workbook.specs.Book.{IsInOrder, content_at, formula_cells, is_f
 ghost use Rattle.workbook.specs.Stale.{is_among};
 ghost use Rattle.rtdhost.specs.Inputs.{known_input, known_formula, value_if_known, ready_value, known_term, sum_if_known, ShowsOthers, AreMeant, KeepsFinished, FinishesReady, IsFinishedOrNew, IsEvaluated};
 
-use std::alloc::Global;
-use std::collections::{BTreeMap, BTreeSet};
-
 use cell_refs::Cell;
 use cell_values::{Memory, Value, add};
 use formula_parse::Term;
+use std::alloc::Global;
+use std::collections::{BTreeMap, BTreeSet};
 use workbook::{Book, Content};
 
 /// What a recalculation reads: the book, its stale cells, and what the sheet showed before.

@@ -8,12 +8,11 @@ ghost use Rattle.workbook.specs.Book.{IsInOrder, is_formula, formula_cells};
 ghost use Rattle.workbook.specs.Stale.{is_among, is_stale};
 ghost use Rattle.rtdhost.specs.Marking.{is_hot, is_touched, AreStale, KeepsMarks, MarksTouched, IsMarkedOrNew, AreFormulas};
 
-use std::alloc::Global;
-use std::collections::BTreeSet;
-
 use cell_refs::Cell;
 use cell_values::Memory;
 use formula_parse::Term;
+use std::alloc::Global;
+use std::collections::BTreeSet;
 use workbook::{Book, Content};
 
 /// Whether a cell is changed or marked.

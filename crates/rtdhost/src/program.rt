@@ -9,12 +9,11 @@ ghost use Rattle.rtdhost.specs.Program.{HasEnded, IsFaultCounted, status_of, tex
 ghost use Rattle.rtdhost.specs.Session.{HasFinished, HasStopped, IsCaused};
 ghost use Rattle.rtdhost.specs.Sink.{Appends, AppendsPrefix, Rose};
 
-use std::alloc::Global;
-
 use super::put::put;
 use super::session::{Halt, Session};
 use super::sinks::Sink;
 use super::sources::{Failed, Source};
+use std::alloc::Global;
 
 /// How the program ends.
 #[derive(Clone, Copy, Debug, PartialEq, Eq)]
@@ -84,7 +83,7 @@ pub fn rtd_host_plain<I: Source, O: Sink>(
     // Before a failed read and at the limit, all whole lines of the bytes that were taken were answered.
     ensures read_answered { (input : List ℕ) → I.remaining src.old ≡ Some input → result ≡ Status.ReadFault
         → (n : ℕ) × (I.remaining src.new ≡ Some (drop n input))
-            × Appends (O.written out.old) (replies_from first_state (whole_lines (take n input))) (O.written out.new) }
+        × Appends (O.written out.old) (replies_from first_state (whole_lines (take n input))) (O.written out.new) }
     ensures limit { (input : List ℕ) → I.remaining src.old ≡ Some input → result ≡ Status.InputLimit → 67108864 < length input }
     ensures limit_answered { (input : List ℕ) → I.remaining src.old ≡ Some input → result ≡ Status.InputLimit
         → Appends (O.written out.old) (replies_from first_state (whole_lines (take 67108864 input))) (O.written out.new) }
@@ -107,12 +106,7 @@ pub fn rtd_host_plain<I: Source, O: Sink>(
 }
 
 /// Runs the script or writes the usage.
-fn respond<I: Source, O: Sink>(
-    alloc: Global,
-    words: &[String],
-    src: &mut I,
-    out: &mut O,
-) -> Status
+fn respond<I: Source, O: Sink>(alloc: Global, words: &[String], src: &mut I, out: &mut O) -> Status
     ensures ended { (input : List ℕ) → I.remaining src.old ≡ Some input
         → HasEnded result (texts words.now) input (O.written out.old) (I.remaining src.new) (O.written out.new) }
     ensures counted { IsFaultCounted result (I.faults src.old) (I.faults src.new) (O.faults out.old) (O.faults out.new) }

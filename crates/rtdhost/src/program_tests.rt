@@ -1,3 +1,5 @@
+ghost use Rattle.std.specs.Prelude.{◌<◌};
+
 use super::program::{Status, rtd_host_plain};
 use super::sinks::MemorySink;
 use super::sources::MemorySource;
@@ -12,18 +14,18 @@ fn run(alloc: Global, src: &mut MemorySource, out: &mut MemorySink) -> Result<St
 }
 
 /// Runs a script whose source gives so many bytes a call, and compares what was written.
-fn plays(
-    rt: &impl Abort,
-    alloc: Global,
-    script: &str,
-    piece: usize,
-    want: &str,
-) -> Result<(), Fail> {
+fn plays(rt: &impl Abort, alloc: Global, script: &str, piece: usize, want: &str) -> Result<(), Fail>
+    requires { 0 < piece }
+{
     let bytes = Vec::from_slice(alloc, script.as_bytes())?;
     let mut src = MemorySource::new(bytes, piece, Vec::new(alloc));
     let mut out = MemorySink::new(alloc, 100, Vec::new(alloc));
     assert_eq!(rt; run(alloc, &mut src, &mut out)?, Status::Ok);
-    assert_eq!(rt; str::from_utf8(out.written())?, want, "at {script:?} by {piece}");
+    assert_eq!(rt;
+        str::from_utf8(out.written())?,
+        want,
+        "at {script:?} by {piece}"
+    );
     Ok(())
 }
 
@@ -67,8 +69,10 @@ fn only_what_a_changed_cell_reaches_is_stale(rt: HostRuntime) -> Result<(), Fail
 
 #[test]
 fn lines_of_other_forms_are_bad(rt: HostRuntime) -> Result<(), Fail> {
-    let script = "jump\nset A1\nset XFE1 1\nset A1048577 1\nset A2 =7/2\nset  A1 1\n calc\ncalc \n\nset A1 1\n";
-    let bad = "bad later\nbad later\nbad later\nbad later\nbad later\nbad later\nbad later\nbad later\n";
+    let script =
+        "jump\nset A1\nset XFE1 1\nset A1048577 1\nset A2 =7/2\nset  A1 1\n calc\ncalc \n\nset A1 1\n";
+    let bad =
+        "bad later\nbad later\nbad later\nbad later\nbad later\nbad later\nbad later\nbad later\n";
     let mut want = String::from_str(rt.alloc(), bad)?;
     want.push_str("ok\n")?;
     plays(&rt, rt.alloc(), script, 1000, want.as_str())

@@ -9,13 +9,11 @@ ghost use Rattle.rtdhost.specs.Publishing.{ShowsMeaning, KeepsMeanings, ShowsCon
 ghost use Rattle.std.specs.Prelude.{List};
 ghost use Rattle.workbook.specs.declared.contents.Content.{Content};
 
-use std::collections::{BTreeMap, BTreeSet};
-
+use super::evaluating::copied;
 use cell_refs::Cell;
 use cell_values::{Memory, Value};
+use std::collections::{BTreeMap, BTreeSet};
 use workbook::{Book, Content};
-
-use super::evaluating::copied;
 
 /// Shows a value at a cell.
 fn show(

@@ -10,16 +10,14 @@ ghost use Rattle.rtdhost.specs.Inputs.{ShowsOthers, IsEvaluated};
 ghost use Rattle.rtdhost.specs.Publishing.{ShowsMeaning};
 ghost use Rattle.rtdhost.specs.Recalculating.{KeepsOthers};
 
-use std::alloc::Global;
-use std::collections::{BTreeMap, BTreeSet};
-
-use cell_refs::Cell;
-use cell_values::{Memory, Value};
-use workbook::Book;
-
 use super::evaluating::{Sight, evaluate};
 use super::marking::{formula_cells, stale_cells};
 use super::publishing::{show_constants, show_stale};
+use cell_refs::Cell;
+use cell_values::{Memory, Value};
+use std::alloc::Global;
+use std::collections::{BTreeMap, BTreeSet};
+use workbook::Book;
 
 /// Brings the sheet up to date, and answers how many cells were stale, circular ones included.
 pub fn recalculate(

@@ -5,15 +5,13 @@ ghost use Rattle.std.specs.Prelude.{option_map};
 ghost use Rattle.formula_parse.specs.Grammar.{formula_of};
 ghost use Rattle.rtdhost.specs.Script.{cell_of, content_of, set_said, word_said, words_said, line_said};
 
-use std::alloc::Global;
-use std::str;
-
+use super::lines::MAX_LINE;
 use cell_refs::{Cell, read_ref};
 use cell_values::read_number_word;
 use formula_parse::{ParseFault, parse};
+use std::alloc::Global;
+use std::str;
 use workbook::{BeginKind, Command, Content, Form};
-
-use super::lines::MAX_LINE;
 
 /// What a line says.
 #[derive(Drop)]

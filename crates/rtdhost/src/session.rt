@@ -10,16 +10,14 @@ ghost use Rattle.rtdhost.specs.Script.{line_said};
 ghost use Rattle.rtdhost.specs.Session.{IsBounded, HasAnswered, HasFinished, HasStopped, IsCaused, IsWriteCaused, has_text, halt_of};
 ghost use Rattle.rtdhost.specs.Sink.{Appends, AppendsPrefix};
 
-use std::alloc::Global;
-
-use cell_values::Memory;
-
 use super::answering::{answer, answer_bad};
 use super::engine::Engine;
 use super::lines::{Line, LineFault, Lines};
 use super::put::put;
 use super::sinks::Sink;
 use super::sources::Source;
+use cell_values::Memory;
+use std::alloc::Global;
 
 /// Why a session stops before the end of its input.
 #[derive(Clone, Copy, Debug, PartialEq, Eq)]
@@ -108,7 +106,7 @@ impl Session {
         requires { self.old.engine.round + 2 < 2 ^ 64 }
         ensures said { (s : State) (text : List ℕ) → Stands self.old.engine s → IsTextOf text line
             → OnOk result (Appends (O.written out.old) (said_reply s (line_said text)) (O.written out.new)
-                × Stands self.new.engine (said_after s (line_said text))) }
+            × Stands self.new.engine (said_after s (line_said text))) }
         ensures front { (s : State) (text : List ℕ) → Stands self.old.engine s → IsTextOf text line
             → OnErr result (AppendsPrefix (O.written out.old) (said_reply s (line_said text)) (O.written out.new)) }
         ensures more { MatchResult result (λ more. more ≡ has_text line) (λ _. has_text line ≡ true) }
@@ -136,7 +134,12 @@ impl Session {
     {
         self.replies.clear();
         match line {
-            Line::Bytes(text) => answer(self.alloc, &mut self.engine, text.as_slice(), &mut self.replies)?,
+            Line::Bytes(text) => answer(
+                self.alloc,
+                &mut self.engine,
+                text.as_slice(),
+                &mut self.replies,
+            )?,
             Line::TooLong => answer_bad(&mut self.replies)?,
             Line::End => return Ok(false),
         }

@@ -9,6 +9,6 @@ loop-cell-preserved c = record {
   ready = ready-next _ _ _ _ _ _ _ _ _ (search rules) c.loop-cell.invariant.keeps c.finish_if_ready.ensures.keeps c.loop-cell.invariant.ready c.in_ok-ready.ensures.ready;
   meant = λ ordered others start. meant-next _ ordered _ _ others _ _ _ (c.loop-cell.invariant.meant ordered others start) c.finish_if_ready.ensures.only;
   idle = λ h.
-    let both = or_false c.loop-cell.moved c.in_ok-ready.ready h in
-    c.in_ok-ready.ensures.idle (ap Ok both.1) ∙ c.loop-cell.invariant.idle both.0;
+      let both = or_false c.loop-cell.moved c.in_ok-ready.ready h in
+      c.in_ok-ready.ensures.idle (ap Ok both.1) ∙ c.loop-cell.invariant.idle both.0;
 }

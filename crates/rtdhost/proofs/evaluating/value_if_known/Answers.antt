@@ -1,4 +1,4 @@
-use Rattle.std.proofs.Common.{rules, ap, sym, ◌∙◌}
+use Rattle.std.proofs.Common.{ap, sym, ◌∙◌}
 use Rattle.std.specs.Option.{option_map}
 use Rattle.cell_values.specs.Value.{final_of}
 use Rattle.rtdhost.specs.Inputs.{known_input, value_if_known}

@@ -1,5 +1,4 @@
 use Rattle.std.proofs.Common.{◌≡◌, ◌++◌, length}
-use Rattle.std.specs.Map.{keys_of}
 use Rattle.workbook.specs.Book.{formula_cells, cells_after}
 use Rattle.rtdhost.proofs.marking.formula_cells.Given as goal
 

@@ -1,1 +1,0 @@
-use Rattle.rtdhost.proofs.marking.names_hot.Goals as goal

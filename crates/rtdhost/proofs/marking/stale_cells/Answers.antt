@@ -1,5 +1,5 @@
-use Rattle.std.proofs.Common.{rules, ◌≡◌, false, not, Ok, ap, sym, ◌∙◌, arith, length, ℕ, subst}
-use Rattle.rtdhost.specs.Marking.{AreStale, MarksTouched, AreFormulas}
+use Rattle.std.proofs.Common.{Ok, ap, sym, arith, subst}
+use Rattle.rtdhost.specs.Marking.{MarksTouched, AreFormulas}
 use Rattle.rtdhost.proofs.Marks.{idle-stale, all-stale, formulas-are, hot-next, marks-changed}
 use Rattle.rtdhost.proofs.marking.stale_cells.Goals as goal
 

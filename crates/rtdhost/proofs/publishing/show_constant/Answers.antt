@@ -9,4 +9,4 @@ returns-in_default-clause-keeps c = keeps-off _ _ _ c.args.cell c.remove.ensures
 pub returns-in_ok-show-clause-keeps : goal.returns-in_ok-show-clause-keeps
 returns-in_ok-show-clause-keeps c =
     keeps-at _ _ _ c.args.cell _ c.in_ok-show.ensures
-      (constant-right c.args.book.now c.args.cell c.in-Some.content.now c.in-Some-constant.value (sym c.get.ensures.found ∙ ap option_copied c.in-Some.is) (sym c.in-Some-constant.ensures))
+    (constant-right c.args.book.now c.args.cell c.in-Some.content.now c.in-Some-constant.value (sym c.get.ensures.found ∙ ap option_copied c.in-Some.is) (sym c.in-Some-constant.ensures))

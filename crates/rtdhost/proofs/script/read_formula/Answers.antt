@@ -1,4 +1,4 @@
-use Rattle.std.proofs.Common.{Err, ap, option_map}
+use Rattle.std.proofs.Common.{ap, option_map}
 use Rattle.workbook.specs.declared.contents.Content.TheVariants.{Formula}
 use Rattle.rtdhost.proofs.Scripts.{no_formula, same_fault}
 use Rattle.rtdhost.proofs.script.read_formula.Goals as goal

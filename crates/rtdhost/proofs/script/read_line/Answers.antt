@@ -1,4 +1,4 @@
-use Rattle.std.proofs.Common.{arith, ap, sym, ◌∙◌}
+use Rattle.std.proofs.Common.{arith, sym, ◌∙◌}
 use Rattle.rtdhost.proofs.Scripts.{said_so}
 use Rattle.rtdhost.proofs.script.read_line.Goals as goal
 

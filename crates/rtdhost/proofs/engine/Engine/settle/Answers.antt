@@ -1,4 +1,4 @@
-use Rattle.std.proofs.Common.{◌≡◌, ap, sym, subst, refl, ◌∙◌}
+use Rattle.std.proofs.Common.{ap, sym, subst, refl, ◌∙◌}
 use Rattle.workbook.specs.declared.commands.Command.TheVariants.{Settle}
 use Rattle.workbook.specs.declared.replies.Reply.TheVariants.{Done}
 use Rattle.workbook.specs.Book.{IsInOrder}
@@ -14,14 +14,15 @@ returns-clause-step c s stands =
     let self = c.args.self.now in
     let running = sym stands.running ∙ c.if-not-self.false in
     let count = c.in_ok-cells.ensures.count ∙ stale_count_alike self.book self.changed.keys s.changed stands.changed ∙ ap (λ b. stale_count b s.changed) stands.book in
-    let kept = subst (KeepsOthers self.changed.keys s.completed) (sym stands.book) (kept_alike s.completed s.book self.changed.keys s.changed stands.changed stands.others) in
-    (ap (λ n. Done n c.in_ok-cells.cells) stands.round ∙ ap (Done s.round) count ∙ sym (round_reply s Settle running),
-     subst (Stands _) (sym (round_after_it s Settle running)) (record {
-       book = stands.book;
-       changed = λ q. ap (λ ks. is_among ks q) c.clear.ensures.empty;
-       shows = λ q. subst (λ b. ShowsMeaning b c.recalculate.new.sheet.entries q) stands.book (c.in_ok-cells.ensures.shows s.completed stands.completed stands.shows kept q);
-       completed = subst IsInOrder stands.book c.recalculate.ensures.ordered;
-       others = λ q _. refl;
-       round = stands.round;
-       running = refl;
-     }))
+    let kept = subst (KeepsOthers self.changed.keys s.completed) (sym stands.book) (kept_alike s.completed s.book self.changed.keys s.changed stands.changed stands.others) in (
+      ap (λ n. Done n c.in_ok-cells.cells) stands.round ∙ ap (Done s.round) count ∙ sym (round_reply s Settle running),
+      subst (Stands _) (sym (round_after_it s Settle running)) (record {
+        book = stands.book;
+        changed = λ q. ap (λ ks. is_among ks q) c.clear.ensures.empty;
+        shows = λ q. subst (λ b. ShowsMeaning b c.recalculate.new.sheet.entries q) stands.book (c.in_ok-cells.ensures.shows s.completed stands.completed stands.shows kept q);
+        completed = subst IsInOrder stands.book c.recalculate.ensures.ordered;
+        others = λ q _. refl;
+        round = stands.round;
+        running = refl;
+      }),
+    )

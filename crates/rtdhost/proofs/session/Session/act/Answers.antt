@@ -1,5 +1,5 @@
 use Rattle.std.proofs.Common.{ap, subst, ◌∙◌, ◌++◌, None}
-use Rattle.rtdhost.specs.Output.{said_reply, said_after}
+use Rattle.rtdhost.specs.Output.{said_reply}
 use Rattle.rtdhost.specs.Reading.{IsTextOf}
 use Rattle.rtdhost.proofs.Sessions.{too_long}
 use Rattle.rtdhost.proofs.session.Session.act.Goals as goal

@@ -7,8 +7,8 @@ use Rattle.rtdhost.proofs.session.Session.read_all.Given as goal
 abbrev pub invariant-loop : goal.invariant-loop
 invariant-loop g l =
     ((all : List ℕ) (before : Option (List ℕ))
-      → HasAnswered all before l.fn.self.engine l.fn.self.lines (g.I.Source.remaining l.fn.src) (g.O.Sink.written l.fn.out)
-      → HasAnswered all before l.self.engine l.self.lines (g.I.Source.remaining l.src) (g.O.Sink.written l.out))
+    → HasAnswered all before l.fn.self.engine l.fn.self.lines (g.I.Source.remaining l.fn.src) (g.O.Sink.written l.fn.out)
+    → HasAnswered all before l.self.engine l.self.lines (g.I.Source.remaining l.src) (g.O.Sink.written l.out))
     × (l.self.lines.fault ≡ None)
     × IsBounded l.self.engine l.self.lines
     × (g.I.Source.faults l.fn.src ≤ g.I.Source.faults l.src)

@@ -1,12 +1,6 @@
-use Rattle.std.proofs.Common.{◌≡◌, List, Option, Result, MatchResult, ap, subst, sym, ◌∙◌, Ok, Err, OnOk, OnErr, IfErr, IfSome, true, false, refl}
-use Rattle.std.specs.Io.KnownBytes.{IsAtEnd, Keeps}
+use Rattle.std.proofs.Common.{◌≡◌, MatchResult, ap, subst, sym, ◌∙◌, Err, true, false, refl}
 use Rattle.std.proofs.lemmas.Bool.{false≢true}
-use Rattle.rtdhost.specs.Engine.{Stands}
-use Rattle.rtdhost.specs.Output.{said_reply, said_after}
-use Rattle.rtdhost.specs.Reading.{IsFirstLeft, held}
-use Rattle.rtdhost.specs.Script.{line_said}
-use Rattle.rtdhost.specs.Session.{HasAnswered, HasFinished, HasStopped, has_text}
-use Rattle.rtdhost.specs.Sink.{Appends, AppendsPrefix}
+use Rattle.rtdhost.specs.Session.{has_text}
 use Rattle.rtdhost.proofs.Turns.{not_ended, next_given, answer_more, answer_stopped, reader_stopped, reader_finished, at_end_if, goes_on}
 use Rattle.rtdhost.proofs.session.Session.turn.Goals as goal
 
@@ -14,9 +8,9 @@ pub returns-in-Ok-clause-more : goal.returns-in-Ok-clause-more
 returns-in-Ok-clause-more g c all before had more =
     answer_more all before c.args.self.now.engine c.answer.new.self.engine c.next.new.self c.answer.new.self.lines c.in-Ok.line (g.I.Source.remaining c.next.new.src) (g.O.Sink.written c.args.out.now) (g.O.Sink.written c.answer.new.out) c.answer.result more c.answer.ensures.lines
     (λ text.
-      let going = not_ended c.args.self.now.lines.ended c.next.result (λ e. (c.next.ensures.done c.requires.fault e).0) (subst (λ r. goes_on r ≡ true) (sym c.in-Ok.is) text) in
-      let moved = c.in-Ok.ensures.moved in
-      next_given all before c.args.self.now.engine c.args.self.now.lines c.next.new.self _ (g.I.Source.remaining c.next.new.src) (g.O.Sink.written c.args.out.now) c.in-Ok.line moved.0 had going text moved.1 moved.2 (λ e. c.next.ensures.ended (λ f. absurd (false≢true (sym going ∙ f))) e))
+    let going = not_ended c.args.self.now.lines.ended c.next.result (λ e. (c.next.ensures.done c.requires.fault e).0) (subst (λ r. goes_on r ≡ true) (sym c.in-Ok.is) text) in
+    let moved = c.in-Ok.ensures.moved in
+    next_given all before c.args.self.now.engine c.args.self.now.lines c.next.new.self _ (g.I.Source.remaining c.next.new.src) (g.O.Sink.written c.args.out.now) c.in-Ok.line moved.0 had going text moved.1 moved.2 (λ e. c.next.ensures.ended (λ f. absurd (false≢true (sym going ∙ f))) e))
     c.answer.ensures.more c.answer.ensures.said
 
 pub returns-in-Ok-clause-finished : goal.returns-in-Ok-clause-finished
@@ -30,9 +24,9 @@ pub returns-in-Ok-clause-stopped : goal.returns-in-Ok-clause-stopped
 returns-in-Ok-clause-stopped g c all before had =
     answer_stopped all before c.args.self.now.engine c.next.new.self c.in-Ok.line (g.I.Source.remaining c.next.new.src) (g.O.Sink.written c.args.out.now) (g.O.Sink.written c.answer.new.out) _ _ c.answer.result
     (λ text.
-      let going = not_ended c.args.self.now.lines.ended c.next.result (λ e. (c.next.ensures.done c.requires.fault e).0) (subst (λ r. goes_on r ≡ true) (sym c.in-Ok.is) text) in
-      let moved = c.in-Ok.ensures.moved in
-      next_given all before c.args.self.now.engine c.args.self.now.lines c.next.new.self _ (g.I.Source.remaining c.next.new.src) (g.O.Sink.written c.args.out.now) c.in-Ok.line moved.0 had going text moved.1 moved.2 (λ e. c.next.ensures.ended (λ f. absurd (false≢true (sym going ∙ f))) e))
+    let going = not_ended c.args.self.now.lines.ended c.next.result (λ e. (c.next.ensures.done c.requires.fault e).0) (subst (λ r. goes_on r ≡ true) (sym c.in-Ok.is) text) in
+    let moved = c.in-Ok.ensures.moved in
+    next_given all before c.args.self.now.engine c.args.self.now.lines c.next.new.self _ (g.I.Source.remaining c.next.new.src) (g.O.Sink.written c.args.out.now) c.in-Ok.line moved.0 had going text moved.1 moved.2 (λ e. c.next.ensures.ended (λ f. absurd (false≢true (sym going ∙ f))) e))
     c.next.ensures.empty c.answer.ensures.more c.answer.ensures.front c.answer.ensures.caused
 
 pub returns-in-Err-clause-stopped : goal.returns-in-Err-clause-stopped
