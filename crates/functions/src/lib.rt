@@ -1,0 +1,8 @@
+//! The forty functions that formulas call: their names, their counts of arguments, and their answers.
+#![tactic(auto)]
+
+mod arguments;
+mod functions;
+
+pub use arguments::{Arg, Values};
+pub use functions::{Function, arity};
