@@ -1,3 +1,7 @@
 -- What the contracts of this crate cite.
+pub mod Arithmetic
 pub mod Functions
+pub mod Gathering
 pub mod Inputs
+pub mod Kinds
+pub mod Logic

@@ -2,7 +2,10 @@
 #![tactic(auto)]
 
 mod arguments;
+mod arithmetic;
 mod functions;
+mod kinds;
+mod numbers;
 
 pub use arguments::{Arg, Values};
 pub use functions::{Function, arity};

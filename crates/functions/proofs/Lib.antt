@@ -1,0 +1,2 @@
+-- Laws of the functions, and lemmas on divisions.
+pub mod Division
