@@ -1,2 +1,4 @@
--- Laws of the functions, and lemmas on divisions.
+-- Laws of the functions, and lemmas on divisions and on what is gathered.
 pub mod Division
+pub mod Gathers
+pub mod Judging

@@ -1,5 +1,5 @@
 -- What a function's arguments are: values, and areas of cells.
-use Rattle.std.specs.Prelude.{◌≡◌, ◌<◌, ◌≤◌, ◌%◌, ℕ, List, [], ◌∷◌, length, slice_get, Result, Ok, Err, All}
+use Rattle.std.specs.Prelude.{◌≡◌, ◌<◌, ◌≤◌, ◌%◌, ℕ, List, [], ◌∷◌, length, slice_get, Result, Ok, Err, All, fold}
 use Rattle.std.specs.Option.{option_map_or}
 use Rattle.cell_values.specs.declared.errors.ErrorKind.{ErrorKind}
 use Rattle.cell_values.specs.declared.errors.ErrorKind.TheVariants as errors
@@ -31,6 +31,11 @@ abbrev pub all_ok : {A : Type 0} → List (Result A ErrorKind) → Result (List 
 all_ok [] = Ok []
 all_ok (Ok x ∷ rs) = with_first x (all_ok rs)
 all_ok (Err e ∷ rs) = Err e
+
+-- a fold over the values of a result; an error stays
+abbrev pub folded : {S A : Type 0} → (S → A → S) → S → Result (List A) ErrorKind → Result S ErrorKind
+folded f s (Ok xs) = Ok (fold f s xs)
+folded f s (Err e) = Err e
 
 -- the most arguments of a call, and the most values of an area
 abbrev pub MOST_ARGUMENTS : ℕ

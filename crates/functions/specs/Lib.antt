@@ -5,3 +5,5 @@ pub mod Gathering
 pub mod Inputs
 pub mod Kinds
 pub mod Logic
+pub mod Tallies
+pub mod Truths

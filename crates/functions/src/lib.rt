@@ -4,8 +4,12 @@
 mod arguments;
 mod arithmetic;
 mod functions;
+mod gathering;
 mod kinds;
+mod logic;
 mod numbers;
+mod tallies;
+mod truths;
 
 pub use arguments::{Arg, Values};
 pub use functions::{Function, arity};

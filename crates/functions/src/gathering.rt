@@ -1,0 +1,27 @@
+ghost use Rattle.std.specs.Prelude.{◌≡◌, ◌+◌, ◌*◌, ◌≤◌, ◌^◌, length, IfOk};
+ghost use Rattle.std.specs.List.{filter_map};
+ghost use Rattle.functions.specs.Inputs.{all_ok, folded, AreInputs};
+ghost use Rattle.functions.specs.Gathering.{number_in_cell, numbers_of, gathered};
+
+use super::arguments::Arg;
+use super::tallies::Tally;
+use cell_values::{ErrorKind, Value, to_number};
+
+/// A tally with the numbers of an area.
+fn tally_cells<T: Tally>(start: T, values: &[Value]) -> Result<T, ErrorKind>
+    requires { T.size start + 2 ^ 63 * length values.now ≤ 2 ^ 100 }
+    ensures numbers { result ≡ folded T.step start (all_ok (filter_map number_in_cell values.now)) }
+    ensures grown { IfOk result (λ tally. T.size tally ≤ T.size start + 2 ^ 63 * length values.now) }
+{
+    let mut tally = start;
+    let mut left = values;
+    while let [value, rest @ ..] = left {
+        match value {
+            Value::Num(n) => tally = tally.with(*n),
+            Value::Error(kind) => return Err(*kind),
+            Value::Text(_) | Value::Bool(_) | Value::Blank => {}
+        }
+        left = rest;
+    }
+    Ok(tally)
+}
