@@ -25,3 +25,21 @@ fn tally_cells<T: Tally>(start: T, values: &[Value]) -> Result<T, ErrorKind>
     }
     Ok(tally)
 }
+
+/// A tally with the gathered numbers of all arguments, or the first error among them.
+fn tally<T: Tally>(start: T, args: &[Arg]) -> Result<T, ErrorKind>
+    requires inputs { AreInputs args.now }
+    requires room { T.size start ≤ 2 ^ 64 }
+    ensures { result ≡ folded T.step start (gathered args.now) }
+{
+    let mut tally = start;
+    let mut left = args;
+    while let [arg, rest @ ..] = left {
+        match arg {
+            Arg::Direct(value) => tally = tally.with(to_number(value)?),
+            Arg::Cells { values, .. } => tally = tally_cells(tally, values.as_slice())?,
+        }
+        left = rest;
+    }
+    Ok(tally)
+}
