@@ -1,4 +1,6 @@
 -- Laws of the functions, and lemmas on divisions and on what is gathered.
+pub mod CountLaws
 pub mod Division
 pub mod Gathers
 pub mod Judging
+pub mod TallyLaws

@@ -1,5 +1,5 @@
 -- What SUM, PRODUCT, MIN, MAX, COUNT and COUNTA make of their arguments.
-use Rattle.std.specs.Prelude.{ℕ, ℤ, pos, ◌+ℤ◌, ◌*ℤ◌, ◌+◌, Bool, not, Option, Some, None, Result, Ok, Err, List, [], ◌∷◌, fold, count_by, is_ok, length}
+use Rattle.std.specs.Prelude.{ℕ, ℤ, pos, ◌+ℤ◌, ◌*ℤ◌, not, Option, Some, None, Result, Ok, Err, List, [], ◌∷◌, fold, count_by, is_ok, if◌then◌else◌}
 use Rattle.std.specs.Int.{int_max, int_min}
 use Rattle.std.specs.List.{filter_map, flat_map, sum_by}
 use Rattle.cell_values.specs.declared.errors.ErrorKind.{ErrorKind}
@@ -10,7 +10,7 @@ use Rattle.cell_values.specs.Value.{number_of, within_magnitude}
 use Rattle.functions.specs.declared.arguments.Arg.{Arg}
 use Rattle.functions.specs.declared.arguments.Arg.TheVariants.{Direct, Cells}
 use Rattle.functions.specs.Inputs.{all_ok}
-use Rattle.functions.specs.Kinds.{is_blank}
+use Rattle.functions.specs.Kinds.{is_blank, is_number}
 
 -- what a cell of an area gives: its number or its error; texts, booleans and Blanks are skipped
 abbrev pub number_in_cell : Value → Option (Result ℤ ErrorKind)
@@ -73,7 +73,8 @@ max_of args = of_numbers (λ ns. values.Num (greatest ns)) (gathered args)
 
 -- how many numbers an argument has: a direct one 1 where it counts as a number, an area its numbers
 abbrev pub numbers_counted : Arg → ℕ
-numbers_counted arg = count_by is_ok (numbers_of arg)
+numbers_counted (Direct v) = if is_ok (number_of v) then 1 else 0
+numbers_counted (Cells columns vs) = count_by is_number vs
 
 -- COUNT: how many numbers the arguments have; errors aren't counted
 abbrev pub count_of : List Arg → Value

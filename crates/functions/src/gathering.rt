@@ -1,10 +1,11 @@
 ghost use Rattle.std.specs.Prelude.{◌≡◌, ◌+◌, ◌*◌, ◌≤◌, ◌^◌, length, IfOk};
 ghost use Rattle.std.specs.List.{filter_map};
 ghost use Rattle.functions.specs.Inputs.{all_ok, folded, AreInputs};
-ghost use Rattle.functions.specs.Gathering.{number_in_cell, numbers_of, gathered};
+ghost use Rattle.functions.specs.Gathering.{number_in_cell, numbers_of, gathered, sum_of, product_of, min_of, max_of};
 
 use super::arguments::Arg;
-use super::tallies::Tally;
+use super::numbers::within;
+use super::tallies::{Greatest, Least, Product, Sum, Tally};
 use cell_values::{ErrorKind, Value, to_number};
 
 /// A tally with the numbers of an area.
@@ -42,4 +43,48 @@ fn tally<T: Tally>(start: T, args: &[Arg]) -> Result<T, ErrorKind>
         left = rest;
     }
     Ok(tally)
+}
+
+/// The exact sum.
+pub fn sum(args: &[Arg]) -> Value
+    requires { AreInputs args.now }
+    ensures { result ≡ sum_of args.now }
+{
+    match tally(Sum(0), args) {
+        Ok(sum) => within(sum.0),
+        Err(kind) => Value::Error(kind),
+    }
+}
+
+/// The exact product, 0 for none.
+pub fn product(args: &[Arg]) -> Value
+    requires { AreInputs args.now }
+    ensures { result ≡ product_of args.now }
+{
+    match tally(Product::Empty, args) {
+        Ok(product) => product.value(),
+        Err(kind) => Value::Error(kind),
+    }
+}
+
+/// The least number, 0 for none.
+pub fn min(args: &[Arg]) -> Value
+    requires { AreInputs args.now }
+    ensures { result ≡ min_of args.now }
+{
+    match tally(Least(None), args) {
+        Ok(least) => Value::Num(least.0.unwrap_or(0)),
+        Err(kind) => Value::Error(kind),
+    }
+}
+
+/// The greatest number, 0 for none.
+pub fn max(args: &[Arg]) -> Value
+    requires { AreInputs args.now }
+    ensures { result ≡ max_of args.now }
+{
+    match tally(Greatest(None), args) {
+        Ok(greatest) => Value::Num(greatest.0.unwrap_or(0)),
+        Err(kind) => Value::Error(kind),
+    }
 }

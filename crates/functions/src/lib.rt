@@ -3,6 +3,7 @@
 
 mod arguments;
 mod arithmetic;
+mod counting;
 mod functions;
 mod gathering;
 mod kinds;

@@ -1,3 +1,8 @@
+ghost use Rattle.std.specs.Prelude.{◌≡◌, ◌*ℤ◌};
+
+use super::numbers::MAGNITUDE;
+use cell_values::{ErrorKind, Value};
+
 /// What is kept of the numbers that were met so far.
 pub trait Tally: Drop {
     ghost use Rattle.std.specs.Prelude.{◌≡◌, ◌≤◌, ◌+◌, ◌^◌, ℕ, ℤ};
@@ -19,9 +24,10 @@ pub trait Tally: Drop {
 pub struct Sum(pub i128);
 
 impl Tally for Sum {
-    ghost use Rattle.std.specs.Prelude.{unsigned_abs, ◌+ℤ◌};
+    ghost use Rattle.std.specs.Prelude.{unsigned_abs};
+    ghost use Rattle.functions.specs.Tallies.{sum_step};
 
-    ghost step = { λ s n. record { 0 = s.0 +ℤ n } };
+    ghost step = { sum_step };
 
     ghost size = { λ s. unsigned_abs s.0 };
 
@@ -64,6 +70,68 @@ impl Tally for Greatest {
         match self.0 {
             Some(greatest) => Greatest(Some(greatest.max(n))),
             None => Greatest(Some(n)),
+        }
+    }
+}
+
+/// The exact product of two numbers.
+fn exact_product(m: i64, n: i64) -> i128
+    ensures { result ≡ m *ℤ n }
+{
+    i128::from(m) * i128::from(n)
+}
+
+/// The exact product, as far as it matters.
+#[derive(Drop)]
+pub enum Product {
+    /// Of no number.
+    Empty,
+    /// Within the magnitude.
+    Within(i64),
+    /// Outside the magnitude.
+    Beyond,
+}
+
+impl Product {
+    ghost use Rattle.std.specs.Prelude.{◌≡◌};
+    ghost use Rattle.functions.specs.Tallies.{product_known, product_shown};
+
+    /// What is kept of a product.
+    fn of(n: i128) -> Product
+        ensures { result ≡ product_known n }
+    {
+        if -MAGNITUDE <= n && n <= MAGNITUDE {
+            Product::Within(n as i64)
+        } else {
+            Product::Beyond
+        }
+    }
+
+    /// The product as a value, 0 of no number and `#NUM!` outside the magnitude.
+    pub fn value(&self) -> Value
+        ensures { result ≡ product_shown self.now }
+    {
+        match self {
+            Product::Empty => Value::Num(0),
+            Product::Within(product) => Value::Num(*product),
+            Product::Beyond => Value::Error(ErrorKind::Num),
+        }
+    }
+}
+
+impl Tally for Product {
+    ghost use Rattle.functions.specs.Tallies.{product_step};
+
+    ghost step = { product_step };
+
+    ghost size = { λ s. 0 };
+
+    fn with(self, n: i64) -> Product {
+        match self {
+            Product::Empty => Product::of(i128::from(n)),
+            Product::Within(p) => Product::of(exact_product(p, n)),
+            Product::Beyond if n == 0 => Product::Within(0),
+            Product::Beyond => Product::Beyond,
         }
     }
 }
