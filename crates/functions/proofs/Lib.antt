@@ -3,4 +3,6 @@ pub mod CountLaws
 pub mod Division
 pub mod Gathers
 pub mod Judging
+pub mod NumberLaws
+pub mod PowerLaws
 pub mod TallyLaws

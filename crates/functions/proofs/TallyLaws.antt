@@ -19,6 +19,8 @@ use Rattle.functions.specs.declared.tallies.Greatest.{Greatest}
 use Rattle.functions.specs.declared.tallies.Product.{Product}
 use Rattle.functions.specs.declared.tallies.Product.TheVariants.{Empty, Within, Beyond}
 use Rattle.functions.specs.Inputs.{folded}
+use Rattle.functions.specs.Numbers.{is_within}
+use Rattle.functions.proofs.NumberLaws.{outside, far_from, choice}
 use Rattle.functions.specs.Gathering.{of_numbers, total, least, greatest, product}
 use Rattle.functions.specs.Tallies.{sum_step, least_step, greatest_step, product_step, product_known, product_shown}
 
@@ -64,28 +66,6 @@ greatest_kept (Ok (n ∷ ns)) s h =
     let same : fold greatest_step (record { 0 = Some n }) ns ≡ s = cc in
     ap (λ (t : Greatest). values.Num (unwrap_or t.0 (pos 0))) (sym same) ∙ ap (λ o. values.Num (unwrap_or o (pos 0))) (greatest_is n ns)
 
--- whether a number is within the magnitude
-abbrev fits : ℤ → Bool
-fits n = int_le (neg_ℤ MAGNITUDE) n && int_le n MAGNITUDE
-
-leb_is_false : (m n : ℕ) → n < m → leb m n ≡ false
-leb_is_false m n h = grind (arith, nat_tests)
-
-leb_is_true : (m n : ℕ) → m ≤ n → leb m n ≡ true
-leb_is_true m n h = grind (arith, nat_tests)
-
-outside : (n : ℤ) → 999999999999999 < unsigned_abs n → fits n ≡ false
-outside (pos n) far = leb_is_false n 999999999999999 far
-outside (negsuc n) far = ap (λ b. b && true) (leb_is_false n 999999999999998 (omega arith))
-
-inside : (n : ℤ) → unsigned_abs n ≤ 999999999999999 → fits n ≡ true
-inside (pos n) near = leb_is_true n 999999999999999 near
-inside (negsuc n) near = ap (λ b. b && true) (leb_is_true n 999999999999998 (omega arith))
-
-far_from : (n : ℤ) → fits n ≡ false → 999999999999999 < unsigned_abs n
-far_from (pos n) e = grind (arith, nat_tests)
-far_from (negsuc n) e = grind (arith, nat_tests)
-
 not_zero : (n : ℤ) → int_eq n (pos 0) ≡ false → 0 < unsigned_abs n
 not_zero (pos zero) e = absurd (cc)
 not_zero (pos (suc n)) e = omega arith
@@ -93,10 +73,6 @@ not_zero (negsuc n) e = omega arith
 
 times_beyond : (p n : ℤ) → 999999999999999 < unsigned_abs p → 0 < unsigned_abs n → 999999999999999 < unsigned_abs (p *ℤ n)
 times_beyond p n far some = omega (arith, unsigned_abs-mul p n, le-mul_of_pos_right (unsigned_abs p) some)
-
-choice : (b : Bool) → (b ≡ true) ⊎ (b ≡ false)
-choice true = inl refl
-choice false = inr refl
 
 -- what is kept of a product that is outside the magnitude stays outside, but for a factor 0
 beyond_times : (p n : ℤ) → 999999999999999 < unsigned_abs p → product_step Beyond n ≡ product_known (p *ℤ n)
@@ -108,7 +84,7 @@ beyond_times p n far = elim (choice (int_eq n (pos 0))) [
 ]
 
 known_times : (p n : ℤ) → product_step (product_known p) n ≡ product_known (p *ℤ n)
-known_times p n = elim (choice (fits p)) [
+known_times p n = elim (choice (is_within p)) [
   | inl e ↦ ap (λ b. product_step (cond b (Within p) Beyond) n) e
   | inr e ↦ ap (λ b. product_step (cond b (Within p) Beyond) n) e ∙ beyond_times p n (far_from p e)
 ]
@@ -118,7 +94,7 @@ product_is p [] = refl
 product_is p (n ∷ ns) = ap (λ s. fold product_step s ns) (known_times p n) ∙ product_is (p *ℤ n) ns
 
 shown_known : (p : ℤ) → product_shown (product_known p) ≡ within_magnitude p
-shown_known p = elim (choice (fits p)) [
+shown_known p = elim (choice (is_within p)) [
   | inl e ↦ ap (λ b. product_shown (cond b (Within p) Beyond)) e ∙ sym (ap (λ b. cond b (values.Num p) (values.Error errors.Num)) e)
   | inr e ↦ ap (λ b. product_shown (cond b (Within p) Beyond)) e ∙ sym (ap (λ b. cond b (values.Num p) (values.Error errors.Num)) e)
 ]

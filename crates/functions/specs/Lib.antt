@@ -5,5 +5,6 @@ pub mod Gathering
 pub mod Inputs
 pub mod Kinds
 pub mod Logic
+pub mod Numbers
 pub mod Tallies
 pub mod Truths

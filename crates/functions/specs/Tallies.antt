@@ -1,11 +1,11 @@
 -- What is kept of the numbers that were met.
-use Rattle.std.specs.Prelude.{ℤ, pos, neg_ℤ, ◌+ℤ◌, ◌*ℤ◌, int_le, ◌&&◌, if◌then◌else◌, Option, Some, None}
+use Rattle.std.specs.Prelude.{ℤ, pos, ◌+ℤ◌, ◌*ℤ◌, if◌then◌else◌, Option, Some, None}
 use Rattle.std.specs.Int.{int_max, int_min}
 use Rattle.std.specs.Ordering.{int_eq}
 use Rattle.cell_values.specs.declared.errors.ErrorKind.TheVariants as errors
 use Rattle.cell_values.specs.declared.values.Value.{Value}
 use Rattle.cell_values.specs.declared.values.Value.TheVariants as values
-use Rattle.cell_values.specs.Value.{MAGNITUDE}
+use Rattle.functions.specs.Numbers.{is_within}
 use Rattle.functions.specs.declared.tallies.Sum.{Sum}
 use Rattle.functions.specs.declared.tallies.Product.{Product}
 use Rattle.functions.specs.declared.tallies.Product.TheVariants.{Empty, Within, Beyond}
@@ -18,7 +18,7 @@ sum_step s n = record { 0 = s.0 +ℤ n }
 
 -- what is kept of a product
 abbrev pub product_known : ℤ → Product
-product_known n = if int_le (neg_ℤ MAGNITUDE) n && int_le n MAGNITUDE then Within n else Beyond
+product_known n = if is_within n then Within n else Beyond
 
 -- a product with one factor more; outside the magnitude it stays there unless the factor is 0
 abbrev pub product_step : Product → ℤ → Product

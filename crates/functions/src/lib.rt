@@ -9,6 +9,7 @@ mod gathering;
 mod kinds;
 mod logic;
 mod numbers;
+mod powers;
 mod tallies;
 mod truths;
 

@@ -1,6 +1,4 @@
-ghost use Rattle.std.specs.Prelude.{◌≡◌, ◌*ℤ◌};
-
-use super::numbers::MAGNITUDE;
+use super::numbers::{exact_product, is_within};
 use cell_values::{ErrorKind, Value};
 
 /// What is kept of the numbers that were met so far.
@@ -74,13 +72,6 @@ impl Tally for Greatest {
     }
 }
 
-/// The exact product of two numbers.
-fn exact_product(m: i64, n: i64) -> i128
-    ensures { result ≡ m *ℤ n }
-{
-    i128::from(m) * i128::from(n)
-}
-
 /// The exact product, as far as it matters.
 #[derive(Drop)]
 pub enum Product {
@@ -100,7 +91,7 @@ impl Product {
     fn of(n: i128) -> Product
         ensures { result ≡ product_known n }
     {
-        if -MAGNITUDE <= n && n <= MAGNITUDE {
+        if is_within(n) {
             Product::Within(n as i64)
         } else {
             Product::Beyond
