@@ -1,4 +1,5 @@
 -- What the contracts of this crate cite.
+pub mod Areas
 pub mod Arithmetic
 pub mod Functions
 pub mod Gathering

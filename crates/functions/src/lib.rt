@@ -1,6 +1,7 @@
 //! The forty functions that formulas call: their names, their counts of arguments, and their answers.
 #![tactic(auto)]
 
+mod areas;
 mod arguments;
 mod arithmetic;
 mod counting;

@@ -42,7 +42,11 @@ pub fn power(n: i64, k: i64) -> Value
     ensures { result ≡ power n k }
 {
     if n == 0 && k <= 0 {
-        Value::Error(if k == 0 { ErrorKind::Num } else { ErrorKind::Div0 })
+        Value::Error(if k == 0 {
+            ErrorKind::Num
+        } else {
+            ErrorKind::Div0
+        })
     } else if k < 0 && n.unsigned_abs() > 1 {
         Value::Error(ErrorKind::Num)
     } else {
