@@ -1,6 +1,7 @@
 -- What the contracts of this crate cite.
 pub mod Areas
 pub mod Arithmetic
+pub mod AskedKinds
 pub mod Functions
 pub mod Gathering
 pub mod Inputs

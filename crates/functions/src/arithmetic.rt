@@ -1,19 +1,22 @@
 ghost use Rattle.std.specs.Prelude.{◌≡◌, ◌≢◌, ◌-ℤ◌, ◌*ℤ◌, pos, unsigned_abs, int_div, int_rem};
 ghost use Rattle.cell_values.specs.Value.{within_magnitude};
-ghost use Rattle.functions.specs.Arithmetic.{sign, signs_differ, is_rounded_up, modulus, whole_quotient, floor};
+ghost use Rattle.functions.specs.Inputs.{argument};
+ghost use Rattle.functions.specs.Arithmetic.{abs_of, sign_of, mod_of, quotient_of, power_of, sign, signs_differ, is_rounded_up, modulus, whole_quotient, floor};
 
+use super::arguments::{Arg, number_at};
 use super::numbers::within;
+use super::powers::power_value;
 use cell_values::{ErrorKind, Value};
 
 /// The magnitude of a number.
-pub fn magnitude(n: i64) -> Value
+fn magnitude(n: i64) -> Value
     ensures { result ≡ within_magnitude (pos (unsigned_abs n)) }
 {
     within(i128::from(n.unsigned_abs()))
 }
 
 /// -1, 0 or 1.
-pub fn sign_of(n: i64) -> Value
+fn sign_value(n: i64) -> Value
     ensures { result ≡ Value.Num (sign n) }
 {
     Value::Num(n.signum())
@@ -63,7 +66,7 @@ fn floor_rest(n: i64, k: i64) -> i128
 }
 
 /// A number less a multiple of another, by the floor of their quotient; by 0 it is `#DIV/0!`.
-pub fn floor_modulus(n: i64, k: i64) -> Value
+fn floor_modulus(n: i64, k: i64) -> Value
     ensures { result ≡ modulus n k }
 {
     if k == 0 {
@@ -74,12 +77,65 @@ pub fn floor_modulus(n: i64, k: i64) -> Value
 }
 
 /// The quotient toward zero; by 0 it is `#DIV/0!`.
-pub fn quotient(n: i64, k: i64) -> Value
+fn quotient_value(n: i64, k: i64) -> Value
     ensures { result ≡ whole_quotient n k }
 {
     if k == 0 {
         Value::Error(ErrorKind::Div0)
     } else {
         within(truncated(n, k))
+    }
+}
+
+/// ABS of the argument.
+pub fn abs(args: &[Arg]) -> Value
+    ensures { result ≡ abs_of (argument args.now 0) }
+{
+    match number_at(args, 0) {
+        Ok(n) => magnitude(n),
+        Err(kind) => Value::Error(kind),
+    }
+}
+
+/// SIGN of the argument.
+pub fn sign(args: &[Arg]) -> Value
+    ensures { result ≡ sign_of (argument args.now 0) }
+{
+    match number_at(args, 0) {
+        Ok(n) => sign_value(n),
+        Err(kind) => Value::Error(kind),
+    }
+}
+
+/// MOD of the two arguments.
+pub fn modulo(args: &[Arg]) -> Value
+    ensures { result ≡ mod_of (argument args.now 0) (argument args.now 1) }
+{
+    match (number_at(args, 0), number_at(args, 1)) {
+        (Err(kind), _) => Value::Error(kind),
+        (Ok(_), Err(kind)) => Value::Error(kind),
+        (Ok(n), Ok(k)) => floor_modulus(n, k),
+    }
+}
+
+/// QUOTIENT of the two arguments.
+pub fn quotient(args: &[Arg]) -> Value
+    ensures { result ≡ quotient_of (argument args.now 0) (argument args.now 1) }
+{
+    match (number_at(args, 0), number_at(args, 1)) {
+        (Err(kind), _) => Value::Error(kind),
+        (Ok(_), Err(kind)) => Value::Error(kind),
+        (Ok(n), Ok(k)) => quotient_value(n, k),
+    }
+}
+
+/// POWER of the two arguments.
+pub fn power(args: &[Arg]) -> Value
+    ensures { result ≡ power_of (argument args.now 0) (argument args.now 1) }
+{
+    match (number_at(args, 0), number_at(args, 1)) {
+        (Err(kind), _) => Value::Error(kind),
+        (Ok(_), Err(kind)) => Value::Error(kind),
+        (Ok(n), Ok(k)) => power_value(n, k),
     }
 }

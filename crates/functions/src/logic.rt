@@ -2,10 +2,11 @@ ghost use Rattle.std.specs.Prelude.{◌≡◌};
 ghost use Rattle.std.specs.List.{filter_map, flat_map};
 ghost use Rattle.cell_values.specs.Coercion.{truth_of};
 ghost use Rattle.functions.specs.Inputs.{all_ok, folded};
-ghost use Rattle.functions.specs.Logic.{truth_in_cell, truths_of, truths, opposite, judged, and_of, or_of};
+ghost use Rattle.functions.specs.Logic.{truth_in_cell, truths_of, truths, opposite, and_of, or_of, not_of};
+ghost use Rattle.functions.specs.Inputs.{argument};
 ghost use Rattle.functions.specs.Truths.{with_truth, NONE_SEEN};
 
-use super::arguments::Arg;
+use super::arguments::{Arg, truth_at};
 use super::truths::Truths;
 use cell_values::{ErrorKind, Value, to_bool};
 
@@ -66,11 +67,18 @@ pub fn or(args: &[Arg]) -> Value
 }
 
 /// The opposite of a boolean.
-pub fn not(truth: Result<bool, ErrorKind>) -> Value
+fn opposite(truth: Result<bool, ErrorKind>) -> Value
     ensures { result ≡ opposite truth }
 {
     match truth {
         Ok(b) => Value::Bool(!b),
         Err(kind) => Value::Error(kind),
     }
+}
+
+/// NOT of the argument.
+pub fn not(args: &[Arg]) -> Value
+    ensures { result ≡ not_of (argument args.now 0) }
+{
+    opposite(truth_at(args, 0))
 }

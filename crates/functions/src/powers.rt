@@ -38,7 +38,7 @@ fn whole_power(n: i64, k: u64) -> Value
 }
 
 /// A number to the power of another.
-pub fn power(n: i64, k: i64) -> Value
+pub fn power_value(n: i64, k: i64) -> Value
     ensures { result ≡ power n k }
 {
     if n == 0 && k <= 0 {
