@@ -1,3 +1,4 @@
 -- What the contracts of this crate cite.
 pub mod Functions
 pub mod Inputs
+pub mod Texts

@@ -3,6 +3,8 @@
 
 mod arguments;
 mod functions;
+mod text_answers;
+mod text_parts;
 
 pub use arguments::{Arg, Values};
 pub use functions::{Function, arity};

@@ -1,0 +1,4 @@
+-- Lemmas on the characters of texts.
+pub mod CharacterFacts
+pub mod PlainFacts
+pub mod TextAnswers
