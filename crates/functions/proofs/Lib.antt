@@ -1,4 +1,6 @@
 -- Lemmas on the characters of texts.
 pub mod CharacterFacts
 pub mod PlainFacts
+pub mod RepeatFacts
 pub mod TextAnswers
+pub mod TrimFacts

@@ -1,11 +1,13 @@
 -- When characters are the text of an answer.
-use Rattle.std.proofs.Common.{◌≡◌, ℕ, ◌+◌, ◌<◌, ◌≤◌, Bool, true, false, not, ◌&&◌, ◌||◌, cond, leb, List, [], ◌∷◌, length, take, drop, Option, Some, None, Result, Ok, Err, refl, sym, ap, ◌∙◌, subst, arith, IfOk}
+use Rattle.std.proofs.Common.{◌≡◌, ℕ, zero, suc, ◌+◌, ◌-◌, ◌<◌, ◌≤◌, Bool, true, false, not, ◌&&◌, ◌||◌, cond, leb, List, [], ◌∷◌, ◌++◌, map, length, take, drop, Option, Some, None, Result, Ok, Err, refl, sym, ap, ◌∙◌, subst, arith, MatchResult, IfOk}
 use Rattle.std.proofs.lemmas.Bool.Decides.{nat_tests}
-use Rattle.std.proofs.lemmas.List.{length-take, length-drop}
+use Rattle.std.proofs.lemmas.List.{length-take, length-drop, length-map}
+use Rattle.std.proofs.lemmas.Str.{chars-encodes}
 use Rattle.std.proofs.lemmas.Iterator.Adapters.{position_from-zero}
-use Rattle.std.specs.Char.{is_ascii_control}
+use Rattle.std.specs.Char.{is_ascii_control, to_ascii_uppercase, to_ascii_lowercase}
 use Rattle.std.specs.List.{list_any, position, position_from}
 use Rattle.std.specs.Str.{is_utf8, chars}
+use lib.Utf8.{encodes, scalar}
 use Rattle.cell_values.specs.Text.{is_text}
 use Rattle.cell_values.specs.TextFault.{IsFaultOf}
 use Rattle.cell_values.specs.Word.{text_of_bytes}
@@ -13,8 +15,8 @@ use Rattle.cell_values.specs.declared.errors.Memory.{Memory}
 use Rattle.cell_values.specs.declared.texts.TextFault.{TextFault}
 use Rattle.cell_values.specs.declared.texts.TextFault.TheVariants.{TooLong, Control}
 use Rattle.cell_values.specs.declared.values.Value.{Value}
-use Rattle.functions.specs.Texts.{text_or_fault, first_characters, without_first}
-use Rattle.functions.proofs.PlainFacts.{parts_of_text, text_of_plain, kept, plain_take, plain_drop}
+use Rattle.functions.specs.Texts.{text_or_fault, first_characters, without_first, last_characters, in_upper_case, in_lower_case}
+use Rattle.functions.proofs.PlainFacts.{Plain, TextParts, parts_of_text, text_of_plain, kept, plain_take, plain_drop, plain_nil, plain_head, plain_cons}
 
 no_text : (s : List ℕ) → is_text s ≡ false → None ≡ text_of_bytes s
 no_text s e = sym (ap (λ b. cond b (Some s) None) e)
@@ -60,6 +62,11 @@ pub shows : (r : Result Value Memory) (shown t : List ℕ) (o : Option (List ℕ
 shows (Ok v) shown t o h same ok is = h ∙ (ap (λ s. text_or_fault (text_of_bytes s)) same ∙ (ap text_or_fault (kept t ok) ∙ sym (ap text_or_fault is)))
 shows (Err e) shown t o h same ok is = tt
 
+-- an answer that shows a text or a fault
+pub answers : (r : Result Value Memory) (o given : Option (List ℕ)) → IfOk r (λ v. v ≡ text_or_fault given) → given ≡ o → IfOk r (λ v. v ≡ text_or_fault o)
+answers (Ok v) o given h is = h ∙ ap text_or_fault is
+answers (Err e) o given h is = tt
+
 -- parts of a text are texts
 pub front_is_text : (n : ℕ) (t : List ℕ) → is_text t ≡ true → is_text (first_characters n t) ≡ true
 front_is_text n t e =
@@ -70,3 +77,30 @@ pub rest_is_text : (n : ℕ) (t : List ℕ) → is_text t ≡ true → is_text (
 rest_is_text n t e =
     let p = parts_of_text t e in
     text_of_plain (drop n (chars t)) (plain_drop n (chars t) p.plain) (let few : length (chars t) ≤ 32767 = p.few in omega (arith, length-drop n (chars t)))
+
+-- a change of each character that keeps it plain
+pub map_is_text : (f : ℕ → ℕ) → ((c : ℕ) → scalar c ≡ true → is_ascii_control c ≡ false → (scalar (f c) ≡ true) × (is_ascii_control (f c) ≡ false)) →
+    (cs : List ℕ) → Plain cs → Plain (map f cs)
+map_is_text f keeps [] plain = plain_nil
+map_is_text f keeps (c ∷ cs) plain =
+    let h = plain_head c cs plain in
+    let k = keeps c h.scalar h.none in
+    plain_cons (f c) (map f cs) k.0 k.1 (map_is_text f keeps cs h.rest)
+
+upper_keeps : (c : ℕ) → scalar c ≡ true → is_ascii_control c ≡ false → (scalar (to_ascii_uppercase c) ≡ true) × (is_ascii_control (to_ascii_uppercase c) ≡ false)
+upper_keeps c s n = (grind (arith, nat_tests), grind (arith, nat_tests))
+
+lower_keeps : (c : ℕ) → scalar c ≡ true → is_ascii_control c ≡ false → (scalar (to_ascii_lowercase c) ≡ true) × (is_ascii_control (to_ascii_lowercase c) ≡ false)
+lower_keeps c s n = (grind (arith, nat_tests), grind (arith, nat_tests))
+
+mapped : (f : ℕ → ℕ) (t : List ℕ) → ((c : ℕ) → scalar c ≡ true → is_ascii_control c ≡ false → (scalar (f c) ≡ true) × (is_ascii_control (f c) ≡ false)) →
+    is_text t ≡ true → is_text (encodes (map f (chars t))) ≡ true
+mapped f t keeps e =
+    let p = parts_of_text t e in
+    text_of_plain (map f (chars t)) (map_is_text f keeps (chars t) p.plain) (let few : length (chars t) ≤ 32767 = p.few in omega (arith, length-map (chars t) f))
+
+pub upper_is_text : (t : List ℕ) → is_text t ≡ true → is_text (in_upper_case t) ≡ true
+upper_is_text t e = mapped to_ascii_uppercase t upper_keeps e
+
+pub lower_is_text : (t : List ℕ) → is_text t ≡ true → is_text (in_lower_case t) ≡ true
+lower_is_text t e = mapped to_ascii_lowercase t lower_keeps e
