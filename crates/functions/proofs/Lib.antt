@@ -1,5 +1,6 @@
 -- Lemmas on the characters of texts.
 pub mod CharacterFacts
+pub mod FindFacts
 pub mod PlainFacts
 pub mod RepeatFacts
 pub mod TextAnswers

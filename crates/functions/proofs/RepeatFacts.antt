@@ -1,5 +1,5 @@
 -- A text repeated.
-use Rattle.std.proofs.Common.{◌≡◌, ℕ, zero, suc, ◌+◌, ◌*◌, ◌/◌, ◌<◌, ◌≤◌, Bool, cond, leb, true, false, List, [], ◌∷◌, ◌++◌, length, Option, Some, None, refl, sym, ap, ◌∙◌, subst, add-one, zero-mul, append_assoc, arith}
+use Rattle.std.proofs.Common.{◌≡◌, ℕ, zero, suc, ◌+◌, ◌*◌, ◌/◌, ◌<◌, cond, leb, true, false, List, [], ◌++◌, length, Some, None, refl, sym, ap, ◌∙◌, subst, add-one, zero-mul, append_assoc, arith}
 use Rattle.std.proofs.lemmas.Bool.Decides.{nat_tests}
 use Rattle.std.proofs.lemmas.List.{append-nil, length-append, nil_from_length}
 use Rattle.std.proofs.lemmas.Str.{chars-encodes, encodes-chars, encodes-append}
@@ -8,7 +8,7 @@ use Rattle.std.specs.Str.{IsUtf8, chars}
 use lib.Utf8.{encodes}
 use Rattle.cell_values.specs.Text.{is_text, if_short}
 use Rattle.cell_values.specs.Word.{text_of_bytes}
-use Rattle.functions.proofs.PlainFacts.{Plain, TextParts, parts_of_text, plain_append, plain_nil, text_if_short}
+use Rattle.functions.proofs.PlainFacts.{Plain, parts_of_text, plain_append, plain_nil, text_if_short}
 
 past_quotient : (m k n : ℕ) → 0 < k → m / k < n → m < n * k
 past_quotient m k n some h = grind arith

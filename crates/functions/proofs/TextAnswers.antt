@@ -1,22 +1,23 @@
 -- When characters are the text of an answer.
-use Rattle.std.proofs.Common.{◌≡◌, ℕ, zero, suc, ◌+◌, ◌-◌, ◌<◌, ◌≤◌, Bool, true, false, not, ◌&&◌, ◌||◌, cond, leb, List, [], ◌∷◌, ◌++◌, map, length, take, drop, Option, Some, None, Result, Ok, Err, refl, sym, ap, ◌∙◌, subst, arith, MatchResult, IfOk}
+use Rattle.std.proofs.Common.{◌≡◌, ℕ, ◌+◌, ◌<◌, ◌≤◌, Bool, true, false, not, ◌&&◌, ◌||◌, cond, leb, List, [], ◌∷◌, map, length, take, drop, Option, Some, None, Result, Ok, Err, refl, sym, ap, ◌∙◌, subst, arith, IfOk}
 use Rattle.std.proofs.lemmas.Bool.Decides.{nat_tests}
 use Rattle.std.proofs.lemmas.List.{length-take, length-drop, length-map}
-use Rattle.std.proofs.lemmas.Str.{chars-encodes}
+use Rattle.std.proofs.lemmas.Str.{is_utf8-from_IsUtf8}
 use Rattle.std.proofs.lemmas.Iterator.Adapters.{position_from-zero}
 use Rattle.std.specs.Char.{is_ascii_control, to_ascii_uppercase, to_ascii_lowercase}
 use Rattle.std.specs.List.{list_any, position, position_from}
-use Rattle.std.specs.Str.{is_utf8, chars}
+use Rattle.std.specs.Str.{IsUtf8, is_utf8, chars}
 use lib.Utf8.{encodes, scalar}
-use Rattle.cell_values.specs.Text.{is_text}
+use Rattle.cell_values.specs.Text.{is_text, if_short}
 use Rattle.cell_values.specs.TextFault.{IsFaultOf}
 use Rattle.cell_values.specs.Word.{text_of_bytes}
 use Rattle.cell_values.specs.declared.errors.Memory.{Memory}
 use Rattle.cell_values.specs.declared.texts.TextFault.{TextFault}
 use Rattle.cell_values.specs.declared.texts.TextFault.TheVariants.{TooLong, Control}
 use Rattle.cell_values.specs.declared.values.Value.{Value}
-use Rattle.functions.specs.Texts.{text_or_fault, first_characters, without_first, last_characters, in_upper_case, in_lower_case}
-use Rattle.functions.proofs.PlainFacts.{Plain, TextParts, parts_of_text, text_of_plain, kept, plain_take, plain_drop, plain_nil, plain_head, plain_cons}
+use Rattle.functions.specs.declared.arguments.Arg.{Arg}
+use Rattle.functions.specs.Texts.{on_text, text_or_fault, first_characters, without_first, in_upper_case, in_lower_case, all_texts, concatenate_of}
+use Rattle.functions.proofs.PlainFacts.{Plain, parts_of_text, text_of_plain, kept, plain_take, plain_drop, plain_nil, plain_head, plain_cons}
 
 no_text : (s : List ℕ) → is_text s ≡ false → None ≡ text_of_bytes s
 no_text s e = sym (ap (λ b. cond b (Some s) None) e)
@@ -104,3 +105,20 @@ upper_is_text t e = mapped to_ascii_uppercase t upper_keeps e
 
 pub lower_is_text : (t : List ℕ) → is_text t ≡ true → is_text (in_lower_case t) ≡ true
 lower_is_text t e = mapped to_ascii_lowercase t lower_keeps e
+
+short_or_not : (u b d : Bool) (s : List ℕ) → u ≡ true → d ≡ true → cond (u && (b && d)) (Some s) None ≡ cond b (Some s) None
+short_or_not true true true s e f = refl
+short_or_not true false d s e f = refl
+short_or_not false b d s e f = absurd (cc)
+short_or_not true true false s e f = absurd (cc)
+
+-- characters without a control character are a text unless they are too many
+pub plain_if_short : (s : List ℕ) → IsUtf8 s → list_any is_ascii_control s ≡ false → text_of_bytes s ≡ if_short s
+plain_if_short s utf8 none = short_or_not (is_utf8 s) (leb (length (chars s)) 32767) (not (list_any is_ascii_control s)) s (is_utf8-from_IsUtf8 s utf8) (ap not none)
+
+-- an answer that shows the texts of arguments
+pub shows_all : (r : Result Value Memory) (args : List Arg) (shown s : List ℕ) → IfOk r (λ v. v ≡ text_or_fault (text_of_bytes shown)) → shown ≡ s → IsUtf8 shown →
+    all_texts args ≡ Ok s → list_any is_ascii_control s ≡ false → IfOk r (λ v. v ≡ concatenate_of args)
+shows_all (Ok v) args shown s h same utf8 is none =
+    h ∙ (ap text_or_fault (plain_if_short shown utf8 (ap (list_any is_ascii_control) same ∙ none)) ∙ (ap (λ t. text_or_fault (if_short t)) same ∙ sym (ap (on_text (λ t. text_or_fault (if_short t))) is)))
+shows_all (Err e) args shown s h same utf8 is none = tt

@@ -1,5 +1,5 @@
 -- A text tidied character by character.
-use Rattle.std.proofs.Common.{◌≡◌, ◌≢◌, ℕ, zero, suc, ◌+◌, ◌-◌, ◌<◌, ◌≤◌, Bool, cond, eqb, true, false, not, ◌&&◌, List, [], ◌∷◌, ◌++◌, length, refl, sym, ap, ◌∙◌, subst, append_assoc, arith}
+use Rattle.std.proofs.Common.{◌≡◌, ◌≢◌, ℕ, ◌-◌, ◌<◌, ◌≤◌, Bool, cond, eqb, true, false, not, ◌&&◌, List, [], ◌∷◌, ◌++◌, length, refl, sym, ap, ◌∙◌, append_assoc, arith}
 use Rattle.std.proofs.lemmas.Bool.Decides.{nat_tests}
 use Rattle.std.proofs.lemmas.List.{append-nil, length-append, nil_from_length}
 use Rattle.std.proofs.lemmas.Str.{chars-nil, chars_past_char, length-encode, len_utf8_bounds, encode_ascii}
@@ -7,7 +7,7 @@ use Rattle.std.specs.Str.{IsUtf8, chars}
 use lib.Utf8.{encode, encodes}
 use Rattle.cell_values.specs.Digits.{after_spaces}
 use Rattle.cell_values.specs.Text.{is_text}
-use Rattle.functions.proofs.PlainFacts.{Plain, PlainHead, TextParts, parts_of_text, text_of_plain, plain_nil, plain_head, plain_cons}
+use Rattle.functions.proofs.PlainFacts.{Plain, parts_of_text, text_of_plain, plain_nil, plain_head, plain_cons}
 use Rattle.functions.specs.Texts.{none_left, before_spaces, single_spaced, tidied, spaced}
 
 -- what stays of the characters after one that is no space

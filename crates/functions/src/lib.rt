@@ -5,6 +5,7 @@ mod arguments;
 mod functions;
 mod text_answers;
 mod text_parts;
+mod text_search;
 mod text_writing;
 
 pub use arguments::{Arg, Values};

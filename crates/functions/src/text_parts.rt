@@ -30,7 +30,7 @@ pub(crate) fn count_characters(text: &str) -> usize
 }
 
 /// A text without its first characters.
-fn without_first(text: &str, n: usize) -> &str
+pub(crate) fn without_first(text: &str, n: usize) -> &str
     ensures { result.now ≡ without_first n text.now }
 {
     let mut rest = text.chars();
