@@ -1,4 +1,5 @@
 -- What the contracts of this crate cite.
+pub mod Applied
 pub mod Areas
 pub mod Arithmetic
 pub mod AskedKinds
@@ -9,4 +10,5 @@ pub mod Kinds
 pub mod Logic
 pub mod Numbers
 pub mod Tallies
+pub mod Texts
 pub mod Truths

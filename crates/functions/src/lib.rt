@@ -1,6 +1,7 @@
 //! The forty functions that formulas call: their names, their counts of arguments, and their answers.
 #![tactic(auto)]
 
+mod applying;
 mod areas;
 mod arguments;
 mod arithmetic;
@@ -12,7 +13,12 @@ mod logic;
 mod numbers;
 mod powers;
 mod tallies;
+mod text_answers;
+mod text_parts;
+mod text_search;
+mod text_writing;
 mod truths;
 
+pub use applying::apply;
 pub use arguments::{Arg, Values};
 pub use functions::{Function, arity};
