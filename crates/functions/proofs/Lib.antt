@@ -9,6 +9,7 @@ pub mod NumberLaws
 pub mod PlainFacts
 pub mod PowerLaws
 pub mod RepeatFacts
+pub mod SumLaws
 pub mod TallyLaws
 pub mod TextAnswers
 pub mod TrimFacts

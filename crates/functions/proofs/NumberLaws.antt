@@ -1,6 +1,10 @@
 -- Which numbers are within the magnitude.
-use Rattle.std.proofs.Common.{◌≡◌, ℕ, ◌<◌, ◌≤◌, Bool, true, false, ◌&&◌, ℤ, pos, negsuc, unsigned_abs, ◌⊎◌, inl, inr, refl, ap, arith, leb}
+use Rattle.std.proofs.Common.{◌≡◌, ℕ, ◌<◌, ◌≤◌, Bool, true, false, ◌&&◌, ℤ, pos, negsuc, unsigned_abs, ◌⊎◌, inl, inr, refl, sym, ap, ◌∙◌, cond, arith, leb}
 use Rattle.std.proofs.lemmas.Bool.Decides.{nat_tests}
+use Rattle.cell_values.specs.declared.errors.ErrorKind.TheVariants as errors
+use Rattle.cell_values.specs.declared.values.Value.{Value}
+use Rattle.cell_values.specs.declared.values.Value.TheVariants as values
+use Rattle.cell_values.specs.Value.{within_magnitude}
 use Rattle.functions.specs.Numbers.{is_within}
 
 -- a test is true or false
@@ -28,3 +32,10 @@ inside (negsuc n) near = ap (λ b. b && true) (leb_is_true n 999999999999998 (om
 pub far_from : (n : ℤ) → is_within n ≡ false → 999999999999999 < unsigned_abs n
 far_from (pos n) e = grind (arith, nat_tests)
 far_from (negsuc n) e = grind (arith, nat_tests)
+
+-- a number that is answered is the number
+pub num_is : (n a : ℤ) → within_magnitude n ≡ values.Num a → n ≡ a
+num_is n a e = elim (choice (is_within n)) [
+    | inl h ↦ (let same : values.Num n ≡ values.Num a = sym (ap (λ b. cond b (values.Num n) (values.Error errors.Num)) h) ∙ e in cc)
+    | inr h ↦ (let same : values.Error errors.Num ≡ values.Num a = sym (ap (λ b. cond b (values.Num n) (values.Error errors.Num)) h) ∙ e in absurd (cc))
+  ]

@@ -9,6 +9,7 @@ mod counting;
 mod functions;
 mod gathering;
 mod kinds;
+mod laws;
 mod logic;
 mod numbers;
 mod powers;
@@ -22,3 +23,7 @@ mod truths;
 pub use applying::apply;
 pub use arguments::{Arg, Values};
 pub use functions::{Function, arity};
+pub use laws::{
+    a_modulus_is_what_the_floor_leaves, a_quotient_leaves_less_than_the_divisor,
+    a_sum_is_the_sum_of_its_parts,
+};
