@@ -6,6 +6,8 @@ mod functions;
 mod text_answers;
 mod text_parts;
 mod text_search;
+#[cfg(test)]
+mod text_tests;
 mod text_writing;
 
 pub use arguments::{Arg, Values};
