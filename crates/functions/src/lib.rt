@@ -17,6 +17,8 @@ mod tallies;
 mod text_answers;
 mod text_parts;
 mod text_search;
+#[cfg(test)]
+mod text_tests;
 mod text_writing;
 mod truths;
 
