@@ -1,7 +1,7 @@
-ghost use Rattle.std.specs.Prelude.{◌≡◌, IfOk};
+ghost use Rattle.std.specs.Prelude.{◌≡◌, ◌↔◌, IsTrue, IfOk};
 ghost use Rattle.cell_values.specs.Coercion.{text_of, truth_of};
 ghost use Rattle.cell_values.specs.Value.{number_of};
-ghost use Rattle.functions.specs.Inputs.{argument, argument_or};
+ghost use Rattle.functions.specs.Inputs.{argument, argument_or, AreInputs};
 
 use cell_values::{ErrorKind, Memory, Text, Value, to_bool, to_number, to_text};
 use std::alloc::Global;
@@ -47,6 +47,31 @@ pub enum Arg {
     Direct(Value),
     /// The values of a reference or an area, by rows.
     Cells { columns: u32, values: Values },
+}
+
+impl Arg {
+    ghost use Rattle.std.specs.Prelude.{◌↔◌, IsTrue};
+    ghost use Rattle.functions.specs.Inputs.{IsInput};
+
+    /// Whether the argument is in form: an area has whole rows, and from 1 to 65,536 values.
+    pub fn is_in_form(&self) -> bool
+        ensures { IsTrue result ↔ IsInput self.now }
+    {
+        match self {
+            Arg::Direct(_) => true,
+            Arg::Cells { columns, values } => {
+                let count = values.as_slice().len();
+                *columns > 0 && count > 0 && count <= 65_536 && count % *columns as usize == 0
+            }
+        }
+    }
+}
+
+/// Whether these are the arguments of a call: at most 255, each in form.
+pub fn are_in_form(args: &[Arg]) -> bool
+    ensures { IsTrue result ↔ AreInputs args.now }
+{
+    args.len() <= 255 && args.iter().all(Arg::is_in_form)
 }
 
 /// The number that the argument at a place counts as.

@@ -14,6 +14,8 @@ mod logic;
 mod numbers;
 mod powers;
 mod tallies;
+#[cfg(test)]
+mod tests;
 mod text_answers;
 mod text_parts;
 mod text_search;
@@ -23,7 +25,7 @@ mod text_writing;
 mod truths;
 
 pub use applying::apply;
-pub use arguments::{Arg, Values};
+pub use arguments::{Arg, Values, are_in_form};
 pub use functions::{Function, arity};
 pub use laws::{
     a_modulus_is_what_the_floor_leaves, a_quotient_leaves_less_than_the_divisor,
