@@ -8,7 +8,6 @@ use Rattle.std.proofs.lemmas.Int.{ints, quot-rem, rem_below}
 use Rattle.std.proofs.lemmas.Map.Lookups.{exact_signed}
 use Rattle.std.proofs.lemmas.Map.Views.{tells_apart}
 use Rattle.cell_values.specs.declared.errors.ErrorKind.TheVariants as errors
-use Rattle.cell_values.specs.declared.values.Value.{Value}
 use Rattle.cell_values.specs.declared.values.Value.TheVariants as values
 use Rattle.cell_values.specs.Value.{within_magnitude}
 use Rattle.functions.specs.Arithmetic.{floor, is_rounded_up, signs_differ, modulus, whole_quotient}

@@ -2,7 +2,6 @@
 use Rattle.std.proofs.Common.{◌≡◌, ℕ, ◌<◌, ◌≤◌, Bool, true, false, ◌&&◌, ℤ, pos, negsuc, unsigned_abs, ◌⊎◌, inl, inr, refl, sym, ap, ◌∙◌, cond, arith, leb}
 use Rattle.std.proofs.lemmas.Bool.Decides.{nat_tests}
 use Rattle.cell_values.specs.declared.errors.ErrorKind.TheVariants as errors
-use Rattle.cell_values.specs.declared.values.Value.{Value}
 use Rattle.cell_values.specs.declared.values.Value.TheVariants as values
 use Rattle.cell_values.specs.Value.{within_magnitude}
 use Rattle.functions.specs.Numbers.{is_within}

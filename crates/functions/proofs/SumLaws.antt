@@ -1,17 +1,14 @@
 -- The sum of arguments in two parts.
-use Rattle.std.proofs.Common.{◌≡◌, Bool, true, false, cond, ◌&&◌, List, [], ◌∷◌, ◌++◌, Result, Ok, Err, fold, ℤ, pos, ◌+ℤ◌, ◌⊎◌, inl, inr, refl, sym, ap, ◌∙◌, arith}
+use Rattle.std.proofs.Common.{◌≡◌, List, [], ◌∷◌, ◌++◌, Result, Ok, Err, fold, ℤ, pos, ◌+ℤ◌, refl, sym, ap, ◌∙◌, arith}
 use Rattle.std.proofs.lemmas.Grind.{flat_map-append}
 use Rattle.std.proofs.lemmas.List.Sums.{fold-append}
 use Rattle.std.proofs.lemmas.Int.{ints}
 use Rattle.cell_values.specs.declared.errors.ErrorKind.{ErrorKind}
-use Rattle.cell_values.specs.declared.errors.ErrorKind.TheVariants as errors
-use Rattle.cell_values.specs.declared.values.Value.{Value}
 use Rattle.cell_values.specs.declared.values.Value.TheVariants as values
 use Rattle.cell_values.specs.Value.{within_magnitude, add_of}
 use Rattle.functions.specs.declared.arguments.Arg.{Arg}
 use Rattle.functions.specs.Inputs.{all_ok, with_first}
 use Rattle.functions.specs.Gathering.{of_numbers, total, gathered, numbers_of, numbers_in, sum_of}
-use Rattle.functions.specs.Numbers.{is_within}
 use Rattle.functions.proofs.NumberLaws.{num_is}
 
 shared_first : {A : Type 0} (x : A) (r : Result (List A) ErrorKind) (zs : List A) → with_first x r ≡ Ok zs → (ys : List A) × (r ≡ Ok ys) × (zs ≡ x ∷ ys)

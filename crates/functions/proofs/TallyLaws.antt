@@ -1,8 +1,7 @@
 -- What the tallies of gathered numbers come to.
-use Rattle.std.proofs.Common.{◌≡◌, ℕ, zero, suc, ◌+◌, ◌*◌, ◌<◌, ◌≤◌, Bool, true, false, cond, ◌&&◌, List, [], ◌∷◌, Result, Ok, Err, Option, Some, None, fold, ℤ, pos, negsuc, neg_ℤ, ◌+ℤ◌, ◌*ℤ◌, int_le, unsigned_abs, unwrap_or, ◌⊎◌, inl, inr, refl, sym, ap, ◌∙◌, arith, leb}
+use Rattle.std.proofs.Common.{◌≡◌, zero, suc, ◌<◌, false, cond, List, [], ◌∷◌, Result, Ok, Err, Some, None, fold, ℤ, pos, negsuc, ◌+ℤ◌, ◌*ℤ◌, unsigned_abs, unwrap_or, inl, inr, refl, sym, ap, ◌∙◌, arith}
 use Rattle.std.proofs.Math.IntN.{*ℤ-zero}
 use Rattle.std.proofs.Math.Nat.{le-mul_of_pos_right}
-use Rattle.std.proofs.lemmas.Bool.Decides.{nat_tests}
 use Rattle.std.proofs.lemmas.Int.{unsigned_abs-mul}
 use Rattle.std.proofs.lemmas.Map.Lookups.{exact_signed}
 use Rattle.std.proofs.lemmas.Map.Views.{tells_apart}
@@ -10,9 +9,8 @@ use Rattle.std.specs.Int.{int_max, int_min}
 use Rattle.std.specs.Ordering.{int_eq}
 use Rattle.cell_values.specs.declared.errors.ErrorKind.{ErrorKind}
 use Rattle.cell_values.specs.declared.errors.ErrorKind.TheVariants as errors
-use Rattle.cell_values.specs.declared.values.Value.{Value}
 use Rattle.cell_values.specs.declared.values.Value.TheVariants as values
-use Rattle.cell_values.specs.Value.{MAGNITUDE, within_magnitude}
+use Rattle.cell_values.specs.Value.{within_magnitude}
 use Rattle.functions.specs.declared.tallies.Sum.{Sum}
 use Rattle.functions.specs.declared.tallies.Least.{Least}
 use Rattle.functions.specs.declared.tallies.Greatest.{Greatest}

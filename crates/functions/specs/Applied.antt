@@ -1,5 +1,5 @@
 -- What the functions answer.
-use Rattle.std.specs.Prelude.{pos, true, false, List, Option}
+use Rattle.std.specs.Prelude.{true, false, List, Option}
 use Rattle.std.specs.Option.{option_map_or}
 use Rattle.cell_values.specs.declared.errors.ErrorKind.TheVariants as errors
 use Rattle.cell_values.specs.declared.values.Value.{Value}
@@ -9,7 +9,6 @@ use Rattle.functions.specs.declared.functions.Function.{Function}
 use Rattle.functions.specs.declared.functions.Function.TheVariants as functions
 use Rattle.functions.specs.Areas.{index_of}
 use Rattle.functions.specs.Arithmetic.{abs_of, sign_of, mod_of, quotient_of, power_of}
-use Rattle.functions.specs.Functions.{function_named}
 use Rattle.functions.specs.Gathering.{sum_of, product_of, min_of, max_of, count_of, counta_of}
 use Rattle.functions.specs.Inputs.{argument}
 use Rattle.functions.specs.Kinds.{is_number, is_text_value, is_logical, is_error, is_na, is_blank}

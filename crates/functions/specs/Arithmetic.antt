@@ -1,5 +1,5 @@
 -- What ABS, SIGN, MOD, QUOTIENT and POWER make of numbers.
-use Rattle.std.specs.Prelude.{ℕ, zero, suc, ℤ, pos, negsuc, neg_ℤ, ◌-ℤ◌, ◌*ℤ◌, ◌==◌, ◌&&◌, not, int_lt, Bool, int_div, int_rem, unsigned_abs, if◌then◌else◌}
+use Rattle.std.specs.Prelude.{ℕ, zero, suc, ℤ, pos, negsuc, ◌-ℤ◌, ◌*ℤ◌, ◌==◌, ◌&&◌, not, int_lt, Bool, int_div, int_rem, unsigned_abs, if◌then◌else◌}
 use Rattle.std.specs.Ordering.{int_eq}
 use Rattle.cell_values.specs.declared.errors.ErrorKind.TheVariants as errors
 use Rattle.cell_values.specs.declared.values.Value.{Value}

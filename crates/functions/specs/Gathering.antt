@@ -3,7 +3,6 @@ use Rattle.std.specs.Prelude.{ℕ, ℤ, pos, ◌+ℤ◌, ◌*ℤ◌, not, Option
 use Rattle.std.specs.Int.{int_max, int_min}
 use Rattle.std.specs.List.{filter_map, flat_map, sum_by}
 use Rattle.cell_values.specs.declared.errors.ErrorKind.{ErrorKind}
-use Rattle.cell_values.specs.declared.errors.ErrorKind.TheVariants as errors
 use Rattle.cell_values.specs.declared.values.Value.{Value}
 use Rattle.cell_values.specs.declared.values.Value.TheVariants as values
 use Rattle.cell_values.specs.Value.{number_of, within_magnitude}
