@@ -4,4 +4,5 @@ pub mod FindFacts
 pub mod PlainFacts
 pub mod RepeatFacts
 pub mod TextAnswers
+pub mod TextLaws
 pub mod TrimFacts

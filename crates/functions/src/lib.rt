@@ -4,6 +4,7 @@
 mod arguments;
 mod functions;
 mod text_answers;
+mod text_laws;
 mod text_parts;
 mod text_search;
 #[cfg(test)]
@@ -12,3 +13,6 @@ mod text_writing;
 
 pub use arguments::{Arg, Values};
 pub use functions::{Function, arity};
+pub use text_laws::{
+    find_gives_the_least_place, left_and_mid_join_to_the_text, trim_is_idempotent,
+};

@@ -150,7 +150,10 @@ fn a_text_of_32767_characters_is_the_longest(rt: HostRuntime) -> Result<(), Fail
     let longest = answer(rt.alloc(), "REPT", args.as_slice())?;
     let mut both = Vec::new(rt.alloc());
     both.push(Arg::Direct(longest))?;
-    assert_eq!(rt; answer(rt.alloc(), "LEN", both.as_slice())?, Value::Num(32_767));
+    assert_eq!(rt;
+        answer(rt.alloc(), "LEN", both.as_slice())?,
+        Value::Num(32_767)
+    );
     both.push(Arg::Direct(Value::Num(1)))?;
     let fault = answer(rt.alloc(), "CONCATENATE", both.as_slice())?;
     assert_eq!(rt; fault, Value::Error(cell_values::ErrorKind::Value));
