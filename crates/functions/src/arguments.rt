@@ -1,9 +1,9 @@
 ghost use Rattle.std.specs.Prelude.{◌≡◌, IfOk};
-ghost use Rattle.cell_values.specs.Coercion.{text_of};
+ghost use Rattle.cell_values.specs.Coercion.{text_of, truth_of};
 ghost use Rattle.cell_values.specs.Value.{number_of};
 ghost use Rattle.functions.specs.Inputs.{argument, argument_or};
 
-use cell_values::{ErrorKind, Memory, Text, Value, to_number, to_text};
+use cell_values::{ErrorKind, Memory, Text, Value, to_bool, to_number, to_text};
 use std::alloc::Global;
 use std::marker::Model;
 
@@ -68,6 +68,17 @@ pub(crate) fn number_or(args: &[Arg], place: usize, other: i64) -> Result<i64, E
         number_at(args, place)
     } else {
         Ok(other)
+    }
+}
+
+/// The boolean that the argument at a place counts as.
+pub(crate) fn truth_at(args: &[Arg], place: usize) -> Result<bool, ErrorKind>
+    ensures { result ≡ truth_of (argument args.now place) }
+{
+    match args.get(place) {
+        Some(Arg::Direct(value)) => to_bool(value),
+        Some(Arg::Cells { .. }) => Err(ErrorKind::Value),
+        None => Ok(false),
     }
 }
 
