@@ -82,7 +82,7 @@ negative_by_positive a b zero e =
 negative_by_positive a b (suc r) e =
     let rem : int_rem (negsuc a) (pos (suc b)) ≡ negsuc r = ap (λ x. neg_ℤ (pos x)) e in
     let m : left_over (negsuc a) (pos (suc b)) ≡ negsuc r +ℤ pos (suc b) =
-        something_left (negsuc a) (pos (suc b)) (ap (λ x. int_eq x (pos 0)) rem) (grind (arith, nat_tests)) ∙ ap (λ x. x +ℤ pos (suc b)) rem in
+    something_left (negsuc a) (pos (suc b)) (ap (λ x. int_eq x (pos 0)) rem) (grind (arith, nat_tests)) ∙ ap (λ x. x +ℤ pos (suc b)) rem in
     let small : suc r < suc b = omega arith in
     (omega (arith, ints), omega (arith, ints))
 
@@ -93,7 +93,7 @@ positive_by_negative a b zero e =
 positive_by_negative a b (suc r) e =
     let rem : int_rem (pos (suc a)) (negsuc b) ≡ pos (suc r) = ap pos e in
     let m : left_over (pos (suc a)) (negsuc b) ≡ pos (suc r) +ℤ negsuc b =
-        something_left (pos (suc a)) (negsuc b) (ap (λ x. int_eq x (pos 0)) rem ∙ not_zero r) (grind (arith, nat_tests)) ∙ ap (λ x. x +ℤ negsuc b) rem in
+    something_left (pos (suc a)) (negsuc b) (ap (λ x. int_eq x (pos 0)) rem ∙ not_zero r) (grind (arith, nat_tests)) ∙ ap (λ x. x +ℤ negsuc b) rem in
     let small : suc r < suc b = omega arith in
     (omega (arith, ints), omega (arith, ints))
 
@@ -118,11 +118,11 @@ floor_leaves_below (negsuc a) b =
 
 from_modulus : (n k m : ℤ) → modulus n k ≡ values.Num m → left_over n k ≡ m
 from_modulus n k m e = elim (choice (int_eq k (pos 0))) [
-    | inl h ↦ (let same : values.Error errors.Div0 ≡ values.Num m =
-            sym (chosen (int_eq k (pos 0)) (values.Error errors.Div0) (within_magnitude (left_over n k)) h) ∙ e in
-        absurd (cc))
-    | inr h ↦ num_is (left_over n k) m (sym (refused (int_eq k (pos 0)) (values.Error errors.Div0) (within_magnitude (left_over n k)) h) ∙ e)
-  ]
+  | inl h ↦ (let same : values.Error errors.Div0 ≡ values.Num m =
+      sym (chosen (int_eq k (pos 0)) (values.Error errors.Div0) (within_magnitude (left_over n k)) h) ∙ e in
+      absurd (cc))
+  | inr h ↦ num_is (left_over n k) m (sym (refused (int_eq k (pos 0)) (values.Error errors.Div0) (within_magnitude (left_over n k)) h) ∙ e)
+]
 
 put_back : (n p x m : ℤ) → n -ℤ p ≡ x → x ≡ m → p +ℤ m ≡ n
 put_back n p x m e f = omega (arith, ints)
@@ -148,11 +148,11 @@ modulus_below n (negsuc b) m e h =
 
 from_quotient : (n k q : ℤ) → whole_quotient n k ≡ values.Num q → (int_div n k ≡ q) × (int_eq k (pos 0) ≡ false)
 from_quotient n k q e = elim (choice (int_eq k (pos 0))) [
-    | inl h ↦ (let same : values.Error errors.Div0 ≡ values.Num q =
-            sym (chosen (int_eq k (pos 0)) (values.Error errors.Div0) (within_magnitude (int_div n k)) h) ∙ e in
-        absurd (cc))
-    | inr h ↦ (num_is (int_div n k) q (sym (refused (int_eq k (pos 0)) (values.Error errors.Div0) (within_magnitude (int_div n k)) h) ∙ e), h)
-  ]
+  | inl h ↦ (let same : values.Error errors.Div0 ≡ values.Num q =
+      sym (chosen (int_eq k (pos 0)) (values.Error errors.Div0) (within_magnitude (int_div n k)) h) ∙ e in
+      absurd (cc))
+  | inr h ↦ (num_is (int_div n k) q (sym (refused (int_eq k (pos 0)) (values.Error errors.Div0) (within_magnitude (int_div n k)) h) ∙ e), h)
+]
 
 some_magnitude : (k : ℤ) → int_eq k (pos 0) ≡ false → 0 < unsigned_abs k
 some_magnitude (pos zero) e = absurd (cc)

@@ -36,6 +36,6 @@ far_from (negsuc n) e = grind (arith, nat_tests)
 -- a number that is answered is the number
 pub num_is : (n a : ℤ) → within_magnitude n ≡ values.Num a → n ≡ a
 num_is n a e = elim (choice (is_within n)) [
-    | inl h ↦ (let same : values.Num n ≡ values.Num a = sym (ap (λ b. cond b (values.Num n) (values.Error errors.Num)) h) ∙ e in cc)
-    | inr h ↦ (let same : values.Error errors.Num ≡ values.Num a = sym (ap (λ b. cond b (values.Num n) (values.Error errors.Num)) h) ∙ e in absurd (cc))
-  ]
+  | inl h ↦ (let same : values.Num n ≡ values.Num a = sym (ap (λ b. cond b (values.Num n) (values.Error errors.Num)) h) ∙ e in cc)
+  | inr h ↦ (let same : values.Error errors.Num ≡ values.Num a = sym (ap (λ b. cond b (values.Num n) (values.Error errors.Num)) h) ∙ e in absurd (cc))
+]

@@ -46,7 +46,7 @@ sum_of-append xs ys a b e f =
     let first = numbers_of_sum (gathered xs) a e in
     let second = numbers_of_sum (gathered ys) b f in
     let all : gathered (xs ++ ys) ≡ Ok (first.0 ++ second.0) =
-        ap all_ok (flat_map-append numbers_of xs ys) ∙ all_ok-append (numbers_in xs) (numbers_in ys) first.0 second.0 first.1 second.1 in
+    ap all_ok (flat_map-append numbers_of xs ys) ∙ all_ok-append (numbers_in xs) (numbers_in ys) first.0 second.0 first.1 second.1 in
     ap (λ r. of_numbers (λ ns. within_magnitude (total ns)) r) all
     ∙ ap within_magnitude (total-append first.0 second.0 ∙ ap (λ k. k +ℤ total second.0) first.2 ∙ ap (λ k. a +ℤ k) second.2)
     ∙ sym (ap (λ v. add_of v (sum_of ys)) e ∙ ap (λ v. add_of (values.Num a) v) f)

@@ -3,17 +3,10 @@ ghost use Rattle.functions.specs.Applied.{applied, applied_by_name};
 ghost use Rattle.functions.specs.Functions.{function_named};
 ghost use Rattle.functions.specs.Inputs.{AreInputs};
 
-use super::areas;
 use super::arguments::Arg;
-use super::arithmetic;
-use super::counting;
 use super::functions::Function;
-use super::gathering;
 use super::kinds::{self, Kind};
-use super::logic;
-use super::text_parts;
-use super::text_search;
-use super::text_writing;
+use super::{areas, arithmetic, counting, gathering, logic, text_parts, text_search, text_writing};
 use cell_values::{ErrorKind, Memory, Value};
 use std::alloc::Global;
 
