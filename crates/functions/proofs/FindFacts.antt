@@ -8,7 +8,7 @@ use Rattle.std.specs.Str.{chars}
 use lib.Utf8.{encode, encodes}
 use Rattle.functions.specs.Texts.{without_first, stands_behind, found_behind}
 
-true_or_false : (b : Bool) → b ≡ true → b ≡ false → ⊥
+pub true_or_false : (b : Bool) → b ≡ true → b ≡ false → ⊥
 true_or_false true e f = absurd (cc)
 true_or_false false e f = absurd (cc)
 

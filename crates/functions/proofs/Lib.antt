@@ -12,4 +12,5 @@ pub mod RepeatFacts
 pub mod SumLaws
 pub mod TallyLaws
 pub mod TextAnswers
+pub mod TextLaws
 pub mod TrimFacts

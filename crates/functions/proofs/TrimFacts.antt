@@ -43,18 +43,21 @@ before_other c cs ne = ap (λ b. cond (b && none_left (before_spaces cs)) [] (c 
 abbrev behind_space : List ℕ → List ℕ
 behind_space ys = cond (none_left ys) [] (32 ∷ ys)
 
-inner_other : (c : ℕ) (cs : List ℕ) → c ≢ 32 → inner (c ∷ cs) ≡ c ∷ inner cs
+pub inner_other : (c : ℕ) (cs : List ℕ) → c ≢ 32 → inner (c ∷ cs) ≡ c ∷ inner cs
 inner_other c cs ne = ap single_spaced (before_other c cs ne) ∙ single_other c (before_spaces cs) ne
 
-inner_space_other : (c : ℕ) (cs : List ℕ) → c ≢ 32 → inner (32 ∷ c ∷ cs) ≡ 32 ∷ c ∷ inner cs
+pub inner_space_other : (c : ℕ) (cs : List ℕ) → c ≢ 32 → inner (32 ∷ c ∷ cs) ≡ 32 ∷ c ∷ inner cs
 inner_space_other c cs ne = ap (λ ys. single_spaced (behind_space ys)) (before_other c cs ne) ∙ single_before c (before_spaces cs) ne
 
-two_spaces : (ys : List ℕ) → single_spaced (behind_space (behind_space ys)) ≡ single_spaced (behind_space ys)
+pub two_spaces : (ys : List ℕ) → single_spaced (behind_space (behind_space ys)) ≡ single_spaced (behind_space ys)
 two_spaces [] = refl
 two_spaces (y ∷ ys) = refl
 
-start_other : (c : ℕ) (cs : List ℕ) → c ≢ 32 → tidied (c ∷ cs) ≡ c ∷ inner cs
+pub start_other : (c : ℕ) (cs : List ℕ) → c ≢ 32 → tidied (c ∷ cs) ≡ c ∷ inner cs
 start_other c cs ne = ap inner (ap (λ b. cond b (after_spaces cs) (c ∷ cs)) (not_space c ne)) ∙ inner_other c cs ne
+
+pub after_other_space : (c : ℕ) (cs : List ℕ) → c ≢ 32 → after_spaces (c ∷ cs) ≡ c ∷ cs
+after_other_space c cs ne = ap (λ b. cond b (after_spaces cs) (c ∷ cs)) (not_space c ne)
 
 -- a space is wanted only behind something
 abbrev pub space_wanted : List ℕ → Bool
@@ -153,6 +156,11 @@ tame_single n (c ∷ []) t = t
 tame_single n (c ∷ d ∷ cs) t =
     let rest = tame_single (n - 1) (d ∷ cs) (tame_tail n c (d ∷ cs) t) in
     tame_choice n (eqb c 32 && eqb d 32) (single_spaced (d ∷ cs)) (c ∷ single_spaced (d ∷ cs)) (tame_more n (single_spaced (d ∷ cs)) rest) (tame_cons n c (d ∷ cs) (single_spaced (d ∷ cs)) t rest)
+
+pub tidied_plain : (t : List ℕ) → is_text t ≡ true → Plain (tidied (chars t))
+tidied_plain t e =
+    let p = parts_of_text t e in
+    (tame_single 32767 (before_spaces (after_spaces (chars t))) (tame_before 32767 (after_spaces (chars t)) (tame_after 32767 (chars t) (record { plain = p.plain; few = p.few })))).plain
 
 -- a tidied text is a text
 pub tidied_is_text : (t : List ℕ) → is_text t ≡ true → is_text (encodes (tidied (chars t))) ≡ true

@@ -10,5 +10,6 @@ pub mod Kinds
 pub mod Logic
 pub mod Numbers
 pub mod Tallies
+pub mod TextLaws
 pub mod Texts
 pub mod Truths

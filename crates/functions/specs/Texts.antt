@@ -32,10 +32,10 @@ on_texts_and_number f s t n = on_text (λ p. on_text_and_number (f p) t n) s
 abbrev pub text_or_fault : Option (List ℕ) → Value
 text_or_fault t = option_map_or values.Text t (values.Error errors.Value)
 
--- a count of characters; one under 0 is none
-abbrev pub count_of : ℤ → Option ℕ
-count_of (pos n) = Some n
-count_of (negsuc n) = None
+-- an amount of characters or repetitions; one under 0 is none
+abbrev pub amount_of : ℤ → Option ℕ
+amount_of (pos n) = Some n
+amount_of (negsuc n) = None
 
 -- how many characters stand before a place; a place under 1 is none
 abbrev pub before_place : ℤ → Option ℕ
@@ -60,21 +60,21 @@ len_of args = on_text (λ t. values.Num (pos (length (chars t)))) (text_of (argu
 
 -- LEFT: the first n characters, where n is 1 unless it is given
 abbrev pub left_part : List ℕ → ℤ → Value
-left_part t n = text_or_fault (option_map (λ k. first_characters k t) (count_of n))
+left_part t n = text_or_fault (option_map (λ k. first_characters k t) (amount_of n))
 
 abbrev pub left_of : List Arg → Value
 left_of args = on_text_and_number left_part (text_of (argument args 0)) (number_of (argument_or (values.Num (pos 1)) args 1))
 
 -- RIGHT: the last n characters, where n is 1 unless it is given
 abbrev pub right_part : List ℕ → ℤ → Value
-right_part t n = text_or_fault (option_map (λ k. last_characters k t) (count_of n))
+right_part t n = text_or_fault (option_map (λ k. last_characters k t) (amount_of n))
 
 abbrev pub right_of : List Arg → Value
 right_of args = on_text_and_number right_part (text_of (argument args 0)) (number_of (argument_or (values.Num (pos 1)) args 1))
 
 -- MID: up to k characters from place n on
 abbrev pub mid_part : List ℕ → ℤ → ℤ → Value
-mid_part t n k = text_or_fault (option_and_then (λ i. option_map (λ j. first_characters j (without_first i t)) (count_of k)) (before_place n))
+mid_part t n k = text_or_fault (option_and_then (λ i. option_map (λ j. first_characters j (without_first i t)) (amount_of k)) (before_place n))
 
 abbrev pub mid_of : List Arg → Value
 mid_of args = on_text_and_number (λ t n. on_number (mid_part t n) (number_of (argument args 2))) (text_of (argument args 0)) (number_of (argument args 1))
@@ -109,7 +109,7 @@ concatenate_of args = on_text (λ t. text_or_fault (if_short t)) (all_texts args
 
 -- REPT: the text n times, unless that is too long
 abbrev pub rept_part : List ℕ → ℤ → Value
-rept_part t n = text_or_fault (option_and_then (λ k. if_short (repeat k t)) (count_of n))
+rept_part t n = text_or_fault (option_and_then (λ k. if_short (repeat k t)) (amount_of n))
 
 abbrev pub rept_of : List Arg → Value
 rept_of args = on_text_and_number rept_part (text_of (argument args 0)) (number_of (argument args 1))

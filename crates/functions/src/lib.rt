@@ -17,6 +17,7 @@ mod tallies;
 #[cfg(test)]
 mod tests;
 mod text_answers;
+mod text_laws;
 mod text_parts;
 mod text_search;
 #[cfg(test)]
@@ -30,4 +31,7 @@ pub use functions::{Function, arity};
 pub use laws::{
     a_modulus_is_what_the_floor_leaves, a_quotient_leaves_less_than_the_divisor,
     a_sum_is_the_sum_of_its_parts,
+};
+pub use text_laws::{
+    find_gives_the_least_place, left_and_mid_join_to_the_text, trim_is_idempotent,
 };

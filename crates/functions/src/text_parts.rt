@@ -1,16 +1,16 @@
 //! The functions that measure a text or take a part of it.
 ghost use Rattle.std.specs.Prelude.{◌≡◌, IfOk, length};
 ghost use Rattle.std.specs.Str.{chars};
-ghost use Rattle.functions.specs.Texts.{count_of, before_place, first_characters, without_first, last_characters, len_of, left_part, left_of, right_part, right_of, mid_part, mid_of};
+ghost use Rattle.functions.specs.Texts.{amount_of, before_place, first_characters, without_first, last_characters, len_of, left_part, left_of, right_part, right_of, mid_part, mid_of};
 
 use super::arguments::{Arg, number_at, number_or, text_at};
 use super::text_answers::text_value;
 use cell_values::{ErrorKind, Memory, Text, Value};
 use std::alloc::Global;
 
-/// A count of characters. None where it is under 0.
-pub(crate) fn count_of(n: i64) -> Option<usize>
-    ensures { result ≡ count_of n }
+/// An amount of characters or repetitions. None where it is under 0.
+pub(crate) fn amount_of(n: i64) -> Option<usize>
+    ensures { result ≡ amount_of n }
 {
     if n < 0 { None } else { Some(n as usize) }
 }
@@ -82,7 +82,7 @@ pub(crate) fn left(alloc: Global, args: &[Arg]) -> Result<Value, Memory>
 fn left_part(alloc: Global, text: &Text, n: i64) -> Result<Value, Memory>
     ensures { IfOk result (λ value. value ≡ left_part text.now n) }
 {
-    match count_of(n) {
+    match amount_of(n) {
         Some(count) => text_value(alloc, first_characters(text.as_str(), count)),
         None => Ok(Value::Error(ErrorKind::Value)),
     }
@@ -103,7 +103,7 @@ pub(crate) fn right(alloc: Global, args: &[Arg]) -> Result<Value, Memory>
 fn right_part(alloc: Global, text: &Text, n: i64) -> Result<Value, Memory>
     ensures { IfOk result (λ value. value ≡ right_part text.now n) }
 {
-    match count_of(n) {
+    match amount_of(n) {
         Some(count) => text_value(alloc, last_characters(text.as_str(), count)),
         None => Ok(Value::Error(ErrorKind::Value)),
     }
@@ -129,7 +129,7 @@ pub(crate) fn mid(alloc: Global, args: &[Arg]) -> Result<Value, Memory>
 fn mid_part(alloc: Global, text: &Text, place: i64, n: i64) -> Result<Value, Memory>
     ensures { IfOk result (λ value. value ≡ mid_part text.now place n) }
 {
-    match (before_place(place), count_of(n)) {
+    match (before_place(place), amount_of(n)) {
         (Some(before), Some(count)) => {
             let rest = without_first(text.as_str(), before);
             text_value(alloc, first_characters(rest, count))

@@ -109,6 +109,7 @@ fn found_behind(pattern: &Text, text: &Text, least: usize) -> Option<usize>
 }
 
 /// Whether a text begins with another.
+#[tactic(auto, using(std::proofs::lemmas::Str::Pattern::starts_text))]
 fn begins_with(text: &str, front: &str) -> bool
     ensures { result ≡ starts_with nat_eq text.now front.now }
 {

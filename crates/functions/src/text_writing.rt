@@ -8,7 +8,7 @@ ghost use Rattle.functions.specs.Texts.{text_or_fault, in_upper_case, in_lower_c
 
 use super::arguments::{Arg, number_at, text_at};
 use super::text_answers::text_value;
-use super::text_parts::{count_characters, count_of};
+use super::text_parts::{amount_of, count_characters};
 use cell_values::{ErrorKind, Memory, Text, Value};
 use std::alloc::{AllocError, Global};
 
@@ -84,7 +84,7 @@ pub(crate) fn rept(alloc: Global, args: &[Arg]) -> Result<Value, Memory>
 fn rept_part(alloc: Global, text: &Text, n: i64) -> Result<Value, Memory>
     ensures { IfOk result (λ value. value ≡ rept_part text.now n) }
 {
-    match count_of(n) {
+    match amount_of(n) {
         Some(times) => repeated_text(alloc, text, times),
         None => Ok(Value::Error(ErrorKind::Value)),
     }
