@@ -10,54 +10,6 @@ use super::{areas, arithmetic, counting, gathering, logic, text_parts, text_sear
 use cell_values::{ErrorKind, Memory, Value};
 use std::alloc::Global;
 
-/// What a function answers.
-pub(crate) fn answer(alloc: Global, function: Function, args: &[Arg]) -> Result<Value, Memory>
-    requires { AreInputs args.now }
-    ensures { IfOk result (λ answer. answer ≡ applied function args.now) }
-{
-    match function {
-        Function::True => Ok(Value::Bool(true)),
-        Function::False => Ok(Value::Bool(false)),
-        Function::If | Function::IfError | Function::IfNa | Function::Choose => {
-            Ok(Value::Error(ErrorKind::Value))
-        }
-        Function::And => Ok(logic::and(args)),
-        Function::Or => Ok(logic::or(args)),
-        Function::Not => Ok(logic::not(args)),
-        Function::IsNumber => Ok(kinds::ask(Kind::Number, args)),
-        Function::IsText => Ok(kinds::ask(Kind::Text, args)),
-        Function::IsLogical => Ok(kinds::ask(Kind::Logical, args)),
-        Function::IsError => Ok(kinds::ask(Kind::Error, args)),
-        Function::IsNa => Ok(kinds::ask(Kind::Na, args)),
-        Function::IsBlank => Ok(kinds::ask(Kind::Blank, args)),
-        Function::Na => Ok(Value::Error(ErrorKind::Na)),
-        Function::Sum => Ok(gathering::sum(args)),
-        Function::Product => Ok(gathering::product(args)),
-        Function::Min => Ok(gathering::min(args)),
-        Function::Max => Ok(gathering::max(args)),
-        Function::Count => Ok(counting::count(args)),
-        Function::CountA => Ok(counting::counta(args)),
-        Function::Abs => Ok(arithmetic::abs(args)),
-        Function::Sign => Ok(arithmetic::sign(args)),
-        Function::Mod => Ok(arithmetic::modulo(args)),
-        Function::Quotient => Ok(arithmetic::quotient(args)),
-        Function::Power => Ok(arithmetic::power(args)),
-        Function::Index => areas::index(args),
-        Function::Len => text_parts::len(alloc, args),
-        Function::Left => text_parts::left(alloc, args),
-        Function::Right => text_parts::right(alloc, args),
-        Function::Mid => text_parts::mid(alloc, args),
-        Function::Upper => text_writing::upper(alloc, args),
-        Function::Lower => text_writing::lower(alloc, args),
-        Function::Concatenate => text_search::concatenate(alloc, args),
-        Function::Exact => text_search::exact(alloc, args),
-        Function::Find => text_search::find(alloc, args),
-        Function::Rept => text_writing::rept(alloc, args),
-        Function::Trim => text_writing::trim(alloc, args),
-        Function::Value => Ok(text_search::value(args)),
-    }
-}
-
 impl Function {
     /// What the function answers. IF, IFERROR, IFNA and CHOOSE choose among arguments that aren't evaluated yet; here
     /// they are `#VALUE!`.
@@ -65,7 +17,47 @@ impl Function {
         requires { AreInputs args.now }
         ensures { IfOk result (λ answer. answer ≡ applied self args.now) }
     {
-        answer(alloc, self, args)
+        match self {
+            Function::True => Ok(Value::Bool(true)),
+            Function::False => Ok(Value::Bool(false)),
+            Function::If | Function::IfError | Function::IfNa | Function::Choose => {
+                Ok(Value::Error(ErrorKind::Value))
+            }
+            Function::And => Ok(logic::and(args)),
+            Function::Or => Ok(logic::or(args)),
+            Function::Not => Ok(logic::not(args)),
+            Function::IsNumber => Ok(kinds::ask(Kind::Number, args)),
+            Function::IsText => Ok(kinds::ask(Kind::Text, args)),
+            Function::IsLogical => Ok(kinds::ask(Kind::Logical, args)),
+            Function::IsError => Ok(kinds::ask(Kind::Error, args)),
+            Function::IsNa => Ok(kinds::ask(Kind::Na, args)),
+            Function::IsBlank => Ok(kinds::ask(Kind::Blank, args)),
+            Function::Na => Ok(Value::Error(ErrorKind::Na)),
+            Function::Sum => Ok(gathering::sum(args)),
+            Function::Product => Ok(gathering::product(args)),
+            Function::Min => Ok(gathering::min(args)),
+            Function::Max => Ok(gathering::max(args)),
+            Function::Count => Ok(counting::count(args)),
+            Function::CountA => Ok(counting::counta(args)),
+            Function::Abs => Ok(arithmetic::abs(args)),
+            Function::Sign => Ok(arithmetic::sign(args)),
+            Function::Mod => Ok(arithmetic::modulo(args)),
+            Function::Quotient => Ok(arithmetic::quotient(args)),
+            Function::Power => Ok(arithmetic::power(args)),
+            Function::Index => areas::index(args),
+            Function::Len => text_parts::len(alloc, args),
+            Function::Left => text_parts::left(alloc, args),
+            Function::Right => text_parts::right(alloc, args),
+            Function::Mid => text_parts::mid(alloc, args),
+            Function::Upper => text_writing::upper(alloc, args),
+            Function::Lower => text_writing::lower(alloc, args),
+            Function::Concatenate => text_search::concatenate(alloc, args),
+            Function::Exact => text_search::exact(alloc, args),
+            Function::Find => text_search::find(alloc, args),
+            Function::Rept => text_writing::rept(alloc, args),
+            Function::Trim => text_writing::trim(alloc, args),
+            Function::Value => Ok(text_search::value(args)),
+        }
     }
 }
 
