@@ -17,7 +17,7 @@ value_of (Cells columns vs) = values.Error errors.Value
 abbrev pub argument_or : Value → List Arg → ℕ → Value
 argument_or other args place = option_map_or value_of (slice_get args place) other
 
--- the value of the argument at a place
+-- the value of the argument at a place, a Blank where no argument stands there
 abbrev pub argument : List Arg → ℕ → Value
 argument args place = argument_or values.Blank args place
 
@@ -37,14 +37,15 @@ abbrev pub folded : {S A : Type 0} → (S → A → S) → S → Result (List A)
 folded f s (Ok xs) = Ok (fold f s xs)
 folded f s (Err e) = Err e
 
--- the most arguments of a call, and the most values of an area
+-- the most arguments of a call
 abbrev pub MOST_ARGUMENTS : ℕ
 MOST_ARGUMENTS = 255
 
+-- the most values of an area
 abbrev pub MOST_VALUES : ℕ
 MOST_VALUES = 65536
 
--- an argument in form: an area has at least one column, and at most 65,536 values in whole rows
+-- an argument in form: an area has at least one column, and from 1 to 65,536 values in whole rows
 abbrev pub IsInput : Arg → Type 0
 IsInput (Direct v) = Unit {0}
 IsInput (Cells columns vs) = (0 < columns) × (0 < length vs) × (length vs ≤ MOST_VALUES) × (length vs % columns ≡ 0)
