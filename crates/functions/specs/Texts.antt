@@ -58,37 +58,43 @@ last_characters n t = without_first (length (chars t) - n) t
 abbrev pub len_of : List Arg → Value
 len_of args = on_text (λ t. values.Num (pos (length (chars t)))) (text_of (argument args 0))
 
--- LEFT: the first n characters, where n is 1 unless it is given
+-- the first n characters of a text; n under 0 is `#VALUE!`
 abbrev pub left_part : List ℕ → ℤ → Value
 left_part t n = text_or_fault (option_map (λ k. first_characters k t) (amount_of n))
 
+-- LEFT: the first n characters, where n is 1 unless it is given
 abbrev pub left_of : List Arg → Value
 left_of args = on_text_and_number left_part (text_of (argument args 0)) (number_of (argument_or (values.Num (pos 1)) args 1))
 
--- RIGHT: the last n characters, where n is 1 unless it is given
+-- the last n characters of a text; n under 0 is `#VALUE!`
 abbrev pub right_part : List ℕ → ℤ → Value
 right_part t n = text_or_fault (option_map (λ k. last_characters k t) (amount_of n))
 
+-- RIGHT: the last n characters, where n is 1 unless it is given
 abbrev pub right_of : List Arg → Value
 right_of args = on_text_and_number right_part (text_of (argument args 0)) (number_of (argument_or (values.Num (pos 1)) args 1))
 
--- MID: up to k characters from place n on
+-- up to k characters of a text from place n on; n under 1 or k under 0 is `#VALUE!`
 abbrev pub mid_part : List ℕ → ℤ → ℤ → Value
 mid_part t n k = text_or_fault (option_and_then (λ i. option_map (λ j. first_characters j (without_first i t)) (amount_of k)) (before_place n))
 
+-- MID: up to k characters from place n on
 abbrev pub mid_of : List Arg → Value
 mid_of args = on_text_and_number (λ t n. on_number (mid_part t n) (number_of (argument args 2))) (text_of (argument args 0)) (number_of (argument args 1))
 
--- UPPER and LOWER: ASCII letters changed
+-- a text with its ASCII letters in upper case
 abbrev pub in_upper_case : List ℕ → List ℕ
 in_upper_case t = encode_utf8_all (map to_ascii_uppercase (chars t))
 
+-- a text with its ASCII letters in lower case
 abbrev pub in_lower_case : List ℕ → List ℕ
 in_lower_case t = encode_utf8_all (map to_ascii_lowercase (chars t))
 
+-- UPPER: ASCII letters changed
 abbrev pub upper_of : List Arg → Value
 upper_of args = on_text (λ t. values.Text (in_upper_case t)) (text_of (argument args 0))
 
+-- LOWER: ASCII letters changed
 abbrev pub lower_of : List Arg → Value
 lower_of args = on_text (λ t. values.Text (in_lower_case t)) (text_of (argument args 0))
 
@@ -107,10 +113,11 @@ all_texts (a ∷ args) = before_others (text_of (value_of a)) (all_texts args)
 abbrev pub concatenate_of : List Arg → Value
 concatenate_of args = on_text (λ t. text_or_fault (if_short t)) (all_texts args)
 
--- REPT: the text n times, unless that is too long
+-- a text n times; n under 0, or a text that is too long, is `#VALUE!`
 abbrev pub rept_part : List ℕ → ℤ → Value
 rept_part t n = text_or_fault (option_and_then (λ k. if_short (repeat k t)) (amount_of n))
 
+-- REPT: the text n times
 abbrev pub rept_of : List Arg → Value
 rept_of args = on_text_and_number rept_part (text_of (argument args 0)) (number_of (argument args 1))
 
@@ -154,17 +161,19 @@ stands_behind p t n = starts_with nat_eq (without_first n t) p
 abbrev pub found_behind : List ℕ → List ℕ → ℕ → Option ℕ
 found_behind p t k = find (stands_behind p t) (range_with_len k (length (chars t) + 1 - k))
 
--- FIND: the least place, and not under n, at which the first text stands in the second; n is 1 unless it is given
+-- the least place, and not under n, at which a text stands in another; none, or n under 1, is `#VALUE!`
 abbrev pub find_place : List ℕ → List ℕ → ℤ → Value
 find_place p t n = option_map_or (λ i. values.Num (pos (i + 1))) (option_and_then (found_behind p t) (before_place n)) (values.Error errors.Value)
 
+-- FIND: the least such place of the first text in the second, where n is 1 unless it is given
 abbrev pub find_of : List Arg → Value
 find_of args = on_texts_and_number find_place (text_of (argument args 0)) (text_of (argument args 1)) (number_of (argument_or (values.Num (pos 1)) args 2))
 
--- VALUE: the number that a value counts as; a boolean counts as none
+-- the number that a value counts as, where a boolean counts as none
 abbrev pub number_read : Value → Value
 number_read (values.Bool b) = values.Error errors.Value
 number_read v = on_number values.Num (number_of v)
 
+-- VALUE: the number that the argument counts as
 abbrev pub value_function_of : List Arg → Value
 value_function_of args = number_read (argument args 0)
