@@ -1,0 +1,13 @@
+use Rattle.std.proofs.Common.{sym, ◌∙◌, rules}
+use mir.Syntax.{w128}
+use mir.Val.{SFits}
+use Rattle.std.proofs.lemmas.Int.{to_z-of_z}
+use Rattle.functions.specs.Gathering.{gathered}
+use Rattle.functions.proofs.TallyLaws.{summed}
+use Rattle.functions.proofs.gathering.sum.Goals as goal
+
+pub returns-in-Ok : goal.returns-in-Ok
+returns-in-Ok c =
+    let fits : SFits w128 c.in-Ok.sum.0 = search rules in
+    let shown = simp to_z-of_z at c.within.ensures in
+    shown ∙ summed (gathered c.args.args.now) c.in-Ok.sum (sym c.tally.ensures ∙ c.in-Ok.is)

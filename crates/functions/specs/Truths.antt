@@ -1,0 +1,11 @@
+-- What was seen of booleans.
+use Rattle.std.specs.Prelude.{Bool, true, false, ◌&&◌, ◌||◌}
+use Rattle.functions.specs.declared.truths.Truths.{Truths}
+
+-- nothing seen
+abbrev pub NONE_SEEN : Truths
+NONE_SEEN = record { some = false; all = true; any = false }
+
+-- with one boolean more
+abbrev pub with_truth : Truths → Bool → Truths
+with_truth seen b = record { some = true; all = seen.all && b; any = seen.any || b }
