@@ -2,6 +2,7 @@
 use Rattle.std.specs.Prelude.{ℕ, Bool, ◌≤◌, refl}
 use Rattle.std.specs.declared.cmp.Ordering.{Ordering}
 use Rattle.std.specs.Ordering.{nat_cmp, ordering_then, is_eq}
+use Rattle.std.specs.Cmp.{IsTotalOrder, nat_cmp_total, on_total, then_total}
 use Rattle.std.specs.Coded.{Coded, code_by, coded×, coded_ℕ}
 use Rattle.cell_refs.specs.declared.grid.Cell.{Cell}
 
@@ -14,6 +15,12 @@ pub record IsCell (cell : Cell) : Type 0 where
 -- by sheet, then by row, then by column
 abbrev pub cell_cmp : Cell → Cell → Ordering
 cell_cmp a b = ordering_then (nat_cmp a.sheet b.sheet) (ordering_then (nat_cmp a.row b.row) (nat_cmp a.col b.col))
+
+-- that is a total order
+pub cells_total : IsTotalOrder cell_cmp
+cells_total =
+    then_total (on_total (λ c. c.sheet) nat_cmp_total)
+    (then_total (on_total (λ c. c.row) nat_cmp_total) (on_total (λ c. c.col) nat_cmp_total))
 
 -- whether two cells are one
 abbrev pub same_cell : Cell → Cell → Bool

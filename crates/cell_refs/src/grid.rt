@@ -1,12 +1,16 @@
-ghost use Rattle.std.specs.Prelude.{◌≡◌, ◌↔◌, IsSome, IfSome};
+ghost use Rattle.std.specs.Prelude.{◌≡◌, ◌↔◌, IsSome, IfSome, Some, refl};
+ghost use Rattle.std.specs.Cmp.{eq_by_cmp_equiv, partial_equiv_from_equiv, partial_order_from_total};
+ghost use Rattle.cell_refs.specs.Cell.{cell_cmp, cells_total, same_cell};
+
+use std::cmp::Ordering;
 
 /// A cell of the grid: its sheet from 1 to 64, its row from 1 to 1,048,576 and its column from 1 to 16,384.
-/// Cells are ordered by sheet, then by row, then by column.
-#[derive(Clone, Copy, Debug, PartialEq, Eq, PartialOrd, Ord)]
+/// It takes 8 bytes, for which its fields stand in another order than they are compared in.
+#[derive(Clone, Copy, Debug)]
 pub struct Cell {
     pub sheet: u8,
-    pub row: u32,
     pub col: u16,
+    pub row: u32,
 }
 
 /// The number of sheets.
@@ -15,6 +19,50 @@ pub const SHEETS: u8 = 64;
 pub const ROWS: u32 = 1_048_576;
 /// The number of columns of a sheet.
 pub const COLUMNS: u16 = 16_384;
+
+const _: () = prove!(size_of::<Cell>() <= 8);
+
+impl PartialEq for Cell {
+    ghost eq = { same_cell };
+
+    ghost laws = { partial_equiv_from_equiv (eq_by_cmp_equiv cells_total) };
+
+    fn eq(&self, other: &Cell) -> bool {
+        self.cmp(other).is_eq()
+    }
+}
+
+impl Eq for Cell {
+    ghost laws = { eq_by_cmp_equiv cells_total };
+}
+
+impl PartialOrd for Cell {
+    ghost partial_cmp = { λ a b. Some (cell_cmp a b) };
+
+    ghost laws = { partial_order_from_total cells_total };
+
+    fn partial_cmp(&self, other: &Cell) -> Option<Ordering> {
+        Some(self.cmp(other))
+    }
+}
+
+/// Cells are ordered by sheet, then by row, then by column.
+impl Ord for Cell {
+    ghost cmp = { cell_cmp };
+
+    ghost total = { cells_total };
+
+    ghost matches_partial_cmp = { λ a b. refl };
+
+    ghost matches_eq = { λ a b. refl };
+
+    fn cmp(&self, other: &Cell) -> Ordering {
+        self.sheet
+            .cmp(&other.sheet)
+            .then(self.row.cmp(&other.row))
+            .then(self.col.cmp(&other.col))
+    }
+}
 
 impl Cell {
     ghost use Rattle.cell_refs.specs.Cell.{IsCell};
