@@ -5,7 +5,7 @@ use super::sinks::Sink;
 use super::sources::{Failed, Source};
 use std::io::{Read, Write};
 
-/// A stream of the system as a source. It tells nothing of its bytes.
+/// A stream as a source. It tells what its stream tells of its bytes: the streams of the system tell nothing.
 #[derive(Drop)]
 pub struct StdSource<R> {
     reader: R,
@@ -21,7 +21,7 @@ impl<R: Read> StdSource<R> {
 }
 
 impl<R: Read> Source for StdSource<R> {
-    ghost remaining = { λ _. None };
+    ghost remaining = { λ s. R.remaining s.reader };
 
     ghost faults = { λ s. s.faults };
 
@@ -36,7 +36,7 @@ impl<R: Read> Source for StdSource<R> {
     }
 }
 
-/// A stream of the system as a sink. It tells nothing of its bytes.
+/// A stream as a sink. It tells what its stream tells of its bytes: the streams of the system tell nothing.
 #[derive(Drop)]
 pub struct StdSink<W> {
     writer: W,
@@ -60,6 +60,7 @@ impl<W: Write> StdSink<W> {
         ensures count { self.old.faults ≤ self.new.faults }
         ensures faults { Rose self.old.faults self.new.faults }
         ensures finished { self.new.finished ≡ self.old.finished }
+        ensures writer { self.new.writer ≡ self.old.writer }
     {
         self.faults = self.faults.saturating_add(1);
         Failed
@@ -67,7 +68,7 @@ impl<W: Write> StdSink<W> {
 }
 
 impl<W: Write> Sink for StdSink<W> {
-    ghost written = { λ _. None };
+    ghost written = { λ s. W.contents s.writer };
 
     ghost faults = { λ s. s.faults };
 
@@ -76,8 +77,9 @@ impl<W: Write> Sink for StdSink<W> {
     fn write(&mut self, bytes: &[u8]) -> Result<usize, Failed> {
         self.finished = false;
         match self.writer.write(bytes) {
-            Ok(count) if count > 0 || bytes.is_empty() => Ok(count),
-            _ => Err(self.fail()),
+            Ok(0) if !bytes.is_empty() => Err(self.fail()),
+            Ok(taken) => Ok(taken),
+            Err(_) => Err(self.fail()),
         }
     }
 
