@@ -1,89 +1,87 @@
--- The grammar of formulas: `=`, and terms with one `+` between each two.
-use Rattle.std.specs.Prelude.{◌≡◌, ℕ, ◌≤◌, Bool, true, ◌&&◌, if◌then◌else◌, ◌==◌, nat_lt, pos, ◌≤ℤ◌, ◌<ℤ◌, int_le, List, [], ◌∷◌, ◌++◌, length, All, Option, Some, None, is_none, option_map, option_and_then}
-use Rattle.std.specs.List.{slice_split, list_all}
-use Rattle.std.specs.Char.{is_ascii_digit}
+-- The grammar of formulas: which tokens each part of a tree is written with.
+use Rattle.std.specs.Prelude.{◌≡◌, ◌⊎◌, ℕ, zero, suc, ◌+◌, ◌<◌, ◌≤◌, pos, ◌≤ℤ◌, Bool, true, false, List, [], ◌∷◌, ◌++◌, map, length, All, Any, Option}
 use Rattle.std.specs.Str.{chars}
-use Rattle.std.specs.Str.Parse.{IsNumeral, digits_value}
 use Rattle.cell_refs.specs.declared.references.RefText.{RefText}
-use Rattle.cell_refs.specs.Written.{reference_at}
-use Rattle.formula_parse.specs.declared.trees.Term.{Term}
-use Rattle.formula_parse.specs.declared.trees.Term.TheVariants.{Number, Reference}
+use Rattle.cell_refs.specs.Area.{area_of, size_of}
+use Rattle.formula_parse.specs.declared.nodes.Node.{Node}
+use Rattle.formula_parse.specs.declared.nodes.Node.TheFolds.{rec-Node}
+use Rattle.formula_parse.specs.declared.nodes.Node.TheOpen.{Node-F}
+use Rattle.formula_parse.specs.declared.nodes.Node.TheOpen as layer
+use Rattle.formula_parse.specs.declared.operators.Operator.{Operator}
+use Rattle.formula_parse.specs.declared.operators.Operator.TheVariants as operators
+use Rattle.formula_parse.specs.declared.tokens.Token.{Token}
+use Rattle.formula_parse.specs.declared.tokens.Token.TheVariants as tokens
+use Rattle.formula_parse.specs.Tokens.{IsSpelled}
 
--- A piece of text writes a term: digits write a number of any size, and a reference without a sheet is the whole piece.
-abbrev pub IsTerm : List ℕ → Term → Type 0
-IsTerm piece (Number n) = IsNumeral 10 piece × (n ≡ pos (digits_value 10 piece))
-IsTerm piece (Reference r) = (reference_at piece ≡ Some (r, length piece)) × (r.sheet ≡ None)
+-- The places of the grammar, from the loosest to the tightest: comparisons 0, concatenations 1, sums 2, products 3, signed operands 4, operands 5. Each operator chains what stands one place tighter.
+abbrev pub place_of : Operator → ℕ
+place_of (operators.Compare op) = 0
+place_of operators.Join = 1
+place_of operators.Add = 2
+place_of operators.Subtract = 2
+place_of operators.Multiply = 3
+place_of operators.Divide = 3
 
--- the written terms, with one `+` between each two
-abbrev pub IsSum : List ℕ → List Term → Type 0
-IsSum text [] = ⊥
-IsSum text (term ∷ []) = IsTerm text term
-IsSum text (term ∷ next ∷ terms) = (piece rest : List ℕ) × (text ≡ piece ++ 43 ∷ rest) × IsTerm piece term × IsSum rest (next ∷ terms)
+-- what is written at a place of the grammar
+abbrev pub Written : Type 1
+Written = ℕ → List Token → Type 0
 
--- `=` and the sum, without limits on the text's length and on the numbers
-abbrev pub IsUnlimitedFormula : List ℕ → List Term → Type 0
-IsUnlimitedFormula text terms = (rest : List ℕ) × (text ≡ 61 ∷ rest) × IsSum rest terms
+-- any number of `-` and `+`, of which this many are `-`
+abbrev pub AreSigns : ℕ → List Token → Type 0
+AreSigns count [] = count ≡ 0
+AreSigns count (tokens.Operator operators.Add ∷ signs) = AreSigns count signs
+AreSigns count (tokens.Operator operators.Subtract ∷ signs) = (rest : ℕ) × (count ≡ suc rest) × AreSigns rest signs
+AreSigns count (other ∷ signs) = ⊥
 
--- a text has at most 8,192 characters
-abbrev pub IsShort : List ℕ → Type 0
-IsShort text = length (chars text) ≤ 8192
+-- an operand behind its signs; where it stands as an operand alone there is none
+pub record IsSigned (place count : ℕ) (Operand : List Token → Type 0) (written : List Token) : Type 0 where
+  pub signs : List Token
+  pub operand : List Token
+  pub both : written ≡ signs ++ operand
+  pub room : (place ≤ 4) ⊎ (signs ≡ [])
+  pub counted : AreSigns count signs
+  pub own : Operand operand
 
--- a number is at most 999,999,999,999,999
-abbrev pub IsWithinLimit : Term → Type 0
-IsWithinLimit (Number n) = n ≤ℤ pos 999999999999999
-IsWithinLimit (Reference r) = Unit {0}
+-- an operand of one token
+abbrev pub IsOne : ℕ → Token → List Token → Type 0
+IsOne place token written = IsSigned place 0 (λ operand. operand ≡ token ∷ []) written
 
--- a number is over that
-abbrev pub IsOverLimit : Term → Type 0
-IsOverLimit (Number n) = pos 999999999999999 <ℤ n
-IsOverLimit (Reference r) = ⊥
+-- between an opening token and a `)`
+abbrev pub IsEnclosed : Token → (List Token → Type 0) → List Token → Type 0
+IsEnclosed opening Inner operand = (inner : List Token) × (operand ≡ opening ∷ (inner ++ tokens.Close ∷ [])) × Inner inner
 
--- the text is a formula of these terms
-pub record IsFormula (text : List ℕ) (terms : List Term) : Type 0 where
-  pub short : IsShort text
-  pub written : IsUnlimitedFormula text terms
-  pub numbers : All IsWithinLimit terms
+-- arguments, with a `,` between each two
+abbrev pub AreArguments : List Written → List Token → Type 0
+AreArguments [] inner = inner ≡ []
+AreArguments (X ∷ []) inner = X 0 inner
+AreArguments (X ∷ Y ∷ Xs) inner = (argument rest : List Token) × (inner ≡ argument ++ tokens.Comma ∷ rest) × X 0 argument × AreArguments (Y ∷ Xs) rest
 
--- one digit or more, and nothing else
-abbrev pub is_numeral : List ℕ → Bool
-is_numeral piece = nat_lt 0 (length piece) && list_all is_ascii_digit piece
+-- operands of one chain from left to right, an operator of this place between each two
+abbrev pub IsChain : ℕ → List Written → List Operator → List Token → Type 0
+IsChain place [] ops written = ⊥
+IsChain place (X ∷ []) [] written = X (suc place) written
+IsChain place (X ∷ []) (op ∷ ops) written = ⊥
+IsChain place (X ∷ Y ∷ Xs) [] written = ⊥
+IsChain place (X ∷ Y ∷ Xs) (op ∷ ops) written = (operand rest : List Token) × (written ≡ operand ++ tokens.Operator op ∷ rest) × X (suc place) operand × (place_of op ≡ place) × IsChain place (Y ∷ Xs) ops rest
 
--- the reference, where it has no sheet and is the whole piece
-abbrev pub whole_reference : List ℕ → Option (RefText × ℕ) → Option Term
-whole_reference piece None = None
-whole_reference piece (Some found) = if found.1 == length piece && is_none found.0.sheet then Some (Reference found.0) else None
+-- a chain of one operator at least, where its place or a looser one stands
+abbrev pub IsChainAt : ℕ → List Written → List Operator → List Token → Type 0
+IsChainAt place Xs [] written = ⊥
+IsChainAt place Xs (op ∷ ops) written = (place ≤ place_of op) × IsChain (place_of op) Xs (op ∷ ops) written
 
--- the term that a piece of text writes
-abbrev pub term_of : List ℕ → Option Term
-term_of piece = if is_numeral piece then Some (Number (pos (digits_value 10 piece))) else whole_reference piece (reference_at piece)
+-- one part of a tree, over what its parts are written with
+abbrev pub written_step : (X : Type 0) → (X → Node) → (X → Written) → Node-F X → Written
+written_step X node part (layer.Number n) place written = IsOne place (tokens.Number n) written
+written_step X node part (layer.Text t) place written = IsOne place (tokens.Text t) written
+written_step X node part (layer.Error e) place written = IsOne place (tokens.Error e) written
+written_step X node part (layer.Boolean b) place written = IsOne place (tokens.Boolean b) written
+written_step X node part (layer.Reference r) place written = IsOne place (tokens.Reference r) written
+written_step X node part (layer.Area a b) place written = IsOne place (tokens.Area a b) written
+written_step X node part (layer.Call name arguments) place written = (length arguments ≤ 255) × IsSigned place 0 (IsEnclosed (tokens.Call name) (AreArguments (map part arguments))) written
+written_step X node part (layer.Parentheses inner) place written = IsSigned place 0 (IsEnclosed tokens.Open (part inner 0)) written
+written_step X node part (layer.Negation count operand) place written = (place ≤ 4) × (0 < count) × IsSigned place count (part operand 5) written
+written_step X node part (layer.Chain operands ops) place written = IsChainAt place (map part operands) ops written
 
--- the terms that the pieces write, where each writes one
-abbrev pub terms_of : List (List ℕ) → Option (List Term)
-terms_of [] = Some []
-terms_of (piece ∷ pieces) = option_and_then (λ term. option_map (λ terms. term ∷ terms) (terms_of pieces)) (term_of piece)
-
--- the pieces of a text between its `+`
-abbrev pub pieces_of : List ℕ → List (List ℕ)
-pieces_of text = slice_split (λ b. b == 43) text
-
--- the terms that a text writes after `=`, without limits
-abbrev pub unlimited_formula_of : List ℕ → Option (List Term)
-unlimited_formula_of [] = None
-unlimited_formula_of (b ∷ rest) = if b == 61 then terms_of (pieces_of rest) else None
-
--- whether a text has over 8,192 characters
-abbrev pub is_too_long : List ℕ → Bool
-is_too_long text = nat_lt 8192 (length (chars text))
-
--- whether a term is within the limit of numbers
-abbrev pub is_within_limit : Term → Bool
-is_within_limit (Number n) = int_le n (pos 999999999999999)
-is_within_limit (Reference r) = true
-
--- the terms, where each is within the limit
-abbrev pub within_limits : List Term → Option (List Term)
-within_limits terms = if list_all is_within_limit terms then Some terms else None
-
--- the terms of the formula that a text is
-unfoldable pub formula_of : List ℕ → Option (List Term)
-formula_of text = if is_too_long text then None else option_and_then within_limits (unlimited_formula_of text)
+-- a tree is written with these tokens at a place of the grammar
+abbrev pub IsWritten : Node → Written
+IsWritten = rec-Node Written written_step

@@ -1,6 +1,8 @@
 -- What the contracts of this crate cite.
+pub mod Faults
 pub mod Grammar
-pub mod Parsed
-pub mod Progress
+pub mod Lexing
+pub mod Printing
 pub mod Reading
+pub mod Tokens
 pub mod Tree

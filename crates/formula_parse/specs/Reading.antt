@@ -1,25 +1,269 @@
--- What the readers of terms and sums answer.
-use Rattle.std.specs.Prelude.{ℕ, ◌+◌, Bool, false, not, ◌&&◌, if◌then◌else◌, List, [], ◌++◌, Option, Some, None, Result, Ok, Err}
-use Rattle.std.specs.List.{list_all}
+-- Reading a text from left to right, token by token.
+use Rattle.std.specs.Prelude.{ℕ, zero, suc, ◌+◌, ◌-◌, ◌==◌, pos, int_lt, Bool, true, false, ◌&&◌, ◌||◌, if◌then◌else◌, nat_lt, nat_le, List, [], ◌∷◌, ◌++◌, length, drop, take_while, Option, Some, None, option_map, option_and_then, Result, Ok, Err}
+use Rattle.std.specs.Str.{chars}
+use Rattle.std.specs.Result.{result_ok}
+use Rattle.cell_refs.specs.Area.{area_of, size_of}
 use Rattle.formula_parse.specs.declared.faults.ParseFault.{ParseFault}
 use Rattle.formula_parse.specs.declared.faults.ParseFault.TheVariants as faults
-use Rattle.formula_parse.specs.declared.terms.TermFault.{TermFault}
-use Rattle.formula_parse.specs.declared.terms.TermFault.TheVariants.{NoTerm, TooLarge}
-use Rattle.formula_parse.specs.declared.trees.Term.{Term}
-use Rattle.formula_parse.specs.declared.viability.Progress.TheVariants as progress
-use Rattle.formula_parse.specs.Grammar.{is_within_limit, terms_of, pieces_of}
-use Rattle.formula_parse.specs.Progress.{viable_len}
+use Rattle.formula_parse.specs.declared.nodes.Node.{Node}
+use Rattle.formula_parse.specs.declared.nodes.Node.TheVariants as nodes
+use Rattle.formula_parse.specs.declared.operators.Operator.{Operator}
+use Rattle.formula_parse.specs.declared.operators.Operator.TheVariants as operators
+use Rattle.formula_parse.specs.declared.reader.Frame.{Frame}
+use Rattle.formula_parse.specs.declared.reader.OpenChain.{OpenChain}
+use Rattle.formula_parse.specs.declared.reader.Opened.{Opened}
+use Rattle.formula_parse.specs.declared.reader.Opened.TheVariants as opened
+use Rattle.formula_parse.specs.declared.reader.Phase.{Phase}
+use Rattle.formula_parse.specs.declared.reader.Phase.TheVariants as phases
+use Rattle.formula_parse.specs.declared.reader.Reader.{Reader}
+use Rattle.formula_parse.specs.declared.tokens.Token.{Token}
+use Rattle.formula_parse.specs.declared.tokens.Token.TheVariants as tokens
+use Rattle.formula_parse.specs.Grammar.{place_of}
+use Rattle.formula_parse.specs.Lexing.{token_at, begun_len}
 
--- the term that a piece of text writes, where its number is within the limit
-abbrev pub term_within : Option Term → Result Term TermFault
-term_within None = Err NoTerm
-term_within (Some term) = if is_within_limit term then Ok term else Err TooLarge
+-- an operand behind signs of which so many are `-`
+abbrev pub negated : ℕ → Node → Node
+negated count operand = if count == 0 then operand else nodes.Negation count operand
 
--- the terms of a sum, behind those in front, where all its numbers are within the limit
-abbrev pub terms_behind : List ℕ → Bool → List Term → Option (List Term) → Result (List Term) ParseFault
-terms_behind sum is_over front None = Err (faults.Syntax (viable_len progress.TermStart sum + 1))
-terms_behind sum is_over front (Some terms) = if not is_over && list_all is_within_limit terms then Ok (front ++ terms) else Err faults.NumberTooLarge
+-- the place of a chain: that of its operators
+abbrev pub place_of_chain : OpenChain → ℕ
+place_of_chain chain = place_of_first chain.operators
+  where
+    place_of_first : List Operator → ℕ
+    place_of_first [] = 0
+    place_of_first (op ∷ ops) = place_of op
 
--- the terms of a sum that stands behind `=`, or its first fault
-unfoldable pub sum_read : List ℕ → Result (List Term) ParseFault
-sum_read sum = terms_behind sum false [] (terms_of (pieces_of sum))
+-- a chain with its last operand
+abbrev pub closed : OpenChain → Node → Node
+closed chain last = nodes.Chain (chain.operands ++ last ∷ []) chain.operators
+
+-- an operand with the chains closed round it that are tighter than a place, and the other chains
+abbrev pub bound : ℕ → Node → List OpenChain → Node × List OpenChain
+bound place operand [] = (operand, [])
+bound place operand (chain ∷ chains) = if nat_lt place (place_of_chain chain) then bound place (closed chain operand) chains else (operand, chain ∷ chains)
+
+-- an operand with all chains closed round it
+abbrev pub finished : Node → List OpenChain → Node
+finished operand [] = operand
+finished operand (chain ∷ chains) = finished (closed chain operand) chains
+
+-- the chains with an operand and the operator behind it, where none is tighter than the operator
+abbrev pub chained : Operator → Node × List OpenChain → List OpenChain
+chained op (operand, []) = (record { operands = operand ∷ []; operators = op ∷ [] }) ∷ []
+chained op (operand, chain ∷ chains) =
+    if place_of_chain chain == place_of op
+    then (record { operands = chain.operands ++ operand ∷ []; operators = chain.operators ++ op ∷ [] }) ∷ chains
+    else (record { operands = operand ∷ []; operators = op ∷ [] }) ∷ chain ∷ chains
+
+-- the chains with an operand and the operator behind it
+abbrev pub joined : Node → Operator → List OpenChain → List OpenChain
+joined operand op chains = chained op (bound (place_of op) operand chains)
+
+-- the operand that a token is by itself
+abbrev pub operand_of : Token → Option Node
+operand_of (tokens.Number n) = Some (nodes.Number n)
+operand_of (tokens.Text t) = Some (nodes.Text t)
+operand_of (tokens.Error e) = Some (nodes.Error e)
+operand_of (tokens.Boolean b) = Some (nodes.Boolean b)
+operand_of (tokens.Reference r) = Some (nodes.Reference r)
+operand_of (tokens.Area a b) = Some (nodes.Area a b)
+operand_of other = None
+
+-- whether a token is an area of over 65,536 cells
+abbrev pub is_wide_area : Token → Bool
+is_wide_area (tokens.Area a b) = nat_lt 65536 (size_of (area_of a b 1))
+is_wide_area other = false
+
+-- whether a token is a number over 999,999,999,999,999
+abbrev pub is_large_number : Token → Bool
+is_large_number (tokens.Number n) = int_lt (pos 999999999999999) n
+is_large_number other = false
+
+-- how many calls are open
+abbrev pub calls_open : List Frame → ℕ
+calls_open [] = 0
+calls_open (frame ∷ frames) = frame.calls
+
+-- a new frame behind signs of which so many are `-`
+abbrev pub with_frame : Opened → ℕ → ℕ → List Frame → List Frame
+with_frame what minuses calls frames = (record { opened = what; minuses = minuses; calls = calls; chains = [] }) ∷ frames
+
+-- a phase and the frames
+abbrev pub Turn : Type 0
+Turn = Phase × List Frame
+
+-- an operand, behind its signs, or none
+abbrev pub after_operand : ℕ → List Frame → Option Node → Option Turn
+after_operand minuses frames operand = option_map (λ node. (phases.After (negated minuses node), frames)) operand
+
+-- a token where an operand or a sign may stand, behind so many `-`
+abbrev pub operand_turn : ℕ → List Frame → Token → Option Turn
+operand_turn minuses frames (tokens.Operator operators.Add) = Some (phases.Signs minuses, frames)
+operand_turn minuses frames (tokens.Operator operators.Subtract) = Some (phases.Signs (suc minuses), frames)
+operand_turn minuses frames tokens.Open = Some (phases.Signs 0, with_frame opened.Parentheses minuses (calls_open frames) frames)
+operand_turn minuses frames (tokens.Call name) = Some (phases.Start, with_frame (opened.Call name []) minuses (suc (calls_open frames)) frames)
+operand_turn minuses frames other = after_operand minuses frames (operand_of other)
+
+-- the `)` of a call without arguments
+abbrev pub empty_call : List Frame → Option Turn
+empty_call [] = None
+empty_call (frame ∷ frames) = empty_call_of frame.opened frame.minuses frames
+  where
+    empty_call_of : Opened → ℕ → List Frame → Option Turn
+    empty_call_of (opened.Call name arguments) minuses frames = Some (phases.After (negated minuses (nodes.Call name arguments)), frames)
+    empty_call_of opened.Formula minuses frames = None
+    empty_call_of opened.Parentheses minuses frames = None
+
+-- a token directly behind a name and `(`
+abbrev pub start_turn : List Frame → Token → Option Turn
+start_turn frames tokens.Close = empty_call frames
+start_turn frames other = operand_turn 0 frames other
+
+-- an operator behind an operand
+abbrev pub operator_turn : Node → Operator → List Frame → Option Turn
+operator_turn operand op [] = None
+operator_turn operand op (frame ∷ frames) = Some (phases.Signs 0, record frame { chains = joined operand op frame.chains } ∷ frames)
+
+-- what a `)` makes of what is open, whose last part this is
+abbrev pub closing : Opened → Node → Option Node
+closing opened.Formula last = None
+closing opened.Parentheses last = Some (nodes.Parentheses last)
+closing (opened.Call name arguments) last = Some (nodes.Call name (arguments ++ last ∷ []))
+
+-- a `)` behind an operand
+abbrev pub close_turn : Node → List Frame → Option Turn
+close_turn operand [] = None
+close_turn operand (frame ∷ frames) = after_operand frame.minuses frames (closing frame.opened (finished operand frame.chains))
+
+-- a call with one more argument, where a further one may follow
+abbrev pub with_argument : Opened → Node → Option Opened
+with_argument opened.Formula last = None
+with_argument opened.Parentheses last = None
+with_argument (opened.Call name arguments) last = if nat_lt (length arguments) 254 then Some (opened.Call name (arguments ++ last ∷ [])) else None
+
+-- a `,` behind an operand
+abbrev pub comma_turn : Node → List Frame → Option Turn
+comma_turn operand [] = None
+comma_turn operand (frame ∷ frames) = option_map (λ what. (phases.Signs 0, with_frame what frame.minuses frame.calls frames)) (with_argument frame.opened (finished operand frame.chains))
+
+-- a token behind an operand
+abbrev pub after_turn : Node → List Frame → Token → Option Turn
+after_turn operand frames (tokens.Operator op) = operator_turn operand op frames
+after_turn operand frames tokens.Close = close_turn operand frames
+after_turn operand frames tokens.Comma = comma_turn operand frames
+after_turn operand frames other = None
+
+-- a token
+abbrev pub turn_at : Phase → List Frame → Token → Option Turn
+turn_at phases.Start frames token = start_turn frames token
+turn_at (phases.Signs minuses) frames token = operand_turn minuses frames token
+turn_at (phases.After operand) frames token = after_turn operand frames token
+
+-- the reader behind a token, where some formula goes on with it
+unfoldable pub stepped : Reader → Token → Option Reader
+stepped reader token =
+    option_map (λ turn. record {
+      phase = turn.0;
+      frames = turn.1;
+      has_wide_area = reader.has_wide_area || is_wide_area token;
+      has_large_number = reader.has_large_number || is_large_number token;
+    }) (turn_at reader.phase reader.frames token)
+
+-- the reader behind the `=` of a formula
+abbrev pub first_reader : Reader
+first_reader = record {
+  phase = phases.Signs 0;
+  frames = (record { opened = opened.Formula; minuses = 0; calls = 0; chains = [] }) ∷ [];
+  has_wide_area = false;
+  has_large_number = false;
+}
+
+-- whether more than 64 calls, or more than 128 calls and parentheses, are open; the formula itself is a frame too
+abbrev pub is_too_deep : List Frame → Bool
+is_too_deep frames = nat_lt 64 (calls_open frames) || nat_lt 129 (length frames)
+
+-- the whole formula, where nothing else is open
+abbrev pub whole : Node → List Frame → Option Node
+whole operand [] = None
+whole operand (frame ∷ []) = Some (finished operand frame.chains)
+whole operand (frame ∷ other ∷ frames) = None
+
+-- the formula's tree, where it may end here
+abbrev pub ended : Phase → List Frame → Option Node
+ended phases.Start frames = None
+ended (phases.Signs minuses) frames = None
+ended (phases.After operand) frames = whole operand frames
+
+-- whether an operand is awaited
+abbrev pub awaits_operand : Phase → Bool
+awaits_operand phases.Start = true
+awaits_operand (phases.Signs minuses) = true
+awaits_operand (phases.After operand) = false
+
+-- how much of a text some formula goes on with where its first token can't stand
+abbrev pub begun_behind : Phase → List ℕ → ℕ
+begun_behind phase text = if awaits_operand phase then begun_len text else 0
+
+-- the tree of a formula within the limits, or the fault
+abbrev pub judged : Reader → Node → Result Node ParseFault
+judged reader tree = if reader.has_wide_area then Err faults.BadRange else (if reader.has_large_number then Err faults.NumberTooLarge else Ok tree)
+
+-- the spaces at the front of a text
+abbrev pub gap_len : List ℕ → ℕ
+gap_len text = length (take_while (λ b. b == 32) text)
+
+-- what the end of the text gives, at this place
+abbrev pub at_end : Reader → ℕ → Option Node → Result Node ParseFault
+at_end reader place None = Err (faults.Syntax place)
+at_end reader place (Some tree) = judged reader tree
+
+-- what a token, or the end of the text, comes to: an answer, or the reader behind the token with its place and the text behind it
+pub data Read : Type 0 where
+  Answer : Result Node ParseFault → Read
+  Onward : Reader → ℕ → List ℕ → Read
+
+-- a token of this length, which makes this of the reader
+abbrev pub read_on : Reader → ℕ → List ℕ → ℕ → Option Reader → Read
+read_on reader place text len None = Answer (Err (faults.Syntax (place + begun_behind reader.phase text)))
+read_on reader place text len (Some next) = if is_too_deep next.frames then Answer (Err faults.TooDeep) else Onward next (place + len) (drop len text)
+
+-- the token at the front of a text, where there is one
+abbrev pub read_found : Reader → ℕ → List ℕ → Option (Token × ℕ) → Read
+read_found reader place text None = Answer (Err (faults.Syntax (place + begun_behind reader.phase text)))
+read_found reader place text (Some found) = read_on reader place text found.1 (stepped reader found.0)
+
+-- the front of a text behind its spaces
+abbrev pub read_token : Reader → ℕ → List ℕ → Read
+read_token reader place [] = Answer (at_end reader place (ended reader.phase reader.frames))
+read_token reader place (b ∷ bs) = read_found reader place (b ∷ bs) (token_at (b ∷ bs))
+
+-- the front of a text
+abbrev pub read_next : Reader → ℕ → List ℕ → Read
+read_next reader place text = read_token reader (place + gap_len text) (drop (gap_len text) text)
+
+-- the answer, or what is read on
+abbrev pub followed : (Reader → ℕ → List ℕ → Result Node ParseFault) → Read → Result Node ParseFault
+followed onward (Answer answer) = answer
+followed onward (Onward reader place text) = onward reader place text
+
+-- what is read behind the reader, from this place on, of a text of less than so many tokens
+abbrev pub read_from : ℕ → Reader → ℕ → List ℕ → Result Node ParseFault
+read_from zero reader place text = Err (faults.Syntax place)
+read_from (suc fuel) reader place text = followed (read_from fuel) (read_next reader place text)
+
+-- the tree of a text of any length, or its first fault
+abbrev pub read_text : List ℕ → Result Node ParseFault
+read_text [] = Err (faults.Syntax 0)
+read_text (b ∷ rest) = if b == 61 then read_from (suc (length rest)) first_reader 1 rest else Err (faults.Syntax 0)
+
+-- whether a text has over 8,192 characters
+abbrev pub is_too_long : List ℕ → Bool
+is_too_long text = nat_lt 8192 (length (chars text))
+
+-- the tree of the formula that a text is, or the first fault of the text
+unfoldable pub parsed : List ℕ → Result Node ParseFault
+parsed text = if is_too_long text then Err faults.TooLong else read_text text
+
+-- the tree of the formula that a text is
+unfoldable pub formula_of : List ℕ → Option Node
+formula_of text = result_ok (parsed text)

@@ -1,20 +1,16 @@
-//! The grammar of formulas, read into trees.
+//! The grammar of formulas.
 #![tactic(auto)]
 
 mod faults;
-mod laws;
-mod parser;
-mod sums;
-mod terms;
-#[cfg(test)]
-mod tests;
+mod nodes;
+mod operators;
+mod reader;
+mod stack;
+mod tokens;
 mod trees;
-mod viability;
 
 pub use faults::ParseFault;
-pub use laws::{
-    a_syntax_fault_stands_behind_the_longest_front, a_text_has_one_tree,
-    reading_gives_what_is_written,
-};
-pub use parser::parse;
-pub use trees::{Term, Tree};
+pub use nodes::Node;
+pub use operators::Operator;
+pub use tokens::Token;
+pub use trees::Tree;

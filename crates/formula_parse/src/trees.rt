@@ -1,66 +1,52 @@
 ghost use Rattle.std.specs.Prelude.{◌≡◌, IfOk};
 
-use cell_refs::RefText;
+use super::nodes::Node;
 use cell_values::Memory;
 use std::alloc::{AllocError, Global};
 use std::marker::Model;
-use std::sync::ArcSlice;
+use std::sync::Arc;
 
-/// A term of a formula.
-#[derive(Clone, Copy, Debug, PartialEq, Eq)]
-pub enum Term {
-    /// A number from 0 to 999,999,999,999,999.
-    Number(i64),
-    Reference(RefText),
-}
-
-/// A formula: the sum of its terms, of which there is one at least. A copy costs the same whatever
-/// the formula's length.
+/// A formula as a tree.
 #[derive(Debug, Drop)]
 pub struct Tree {
-    shared: ArcSlice<Term, Global>,
+    root: Arc<Node, Global>,
 }
 
 impl Model for Tree {
-    ghost use Rattle.std.specs.Prelude.{List};
-    ghost use Rattle.std.specs.Arc.{arc_slice_items};
-    ghost use Rattle.formula_parse.specs.declared.trees.Term.{Term};
+    ghost use Rattle.formula_parse.specs.declared.nodes.Node.{Node};
+    ghost use Rattle.formula_parse.specs.contracts.nodes.Node as e;
+    ghost use Rattle.std.specs.Arc.{arc_value};
+    ghost use Rattle.std.specs.Coded.{codes};
 
-    ghost Value = { List Term };
+    ghost Value = { Node };
 
-    ghost use Rattle.formula_parse.specs.Tree.{IsTree};
+    ghost coded = { Prim.hlevel (codes, e.the_row.coded) };
 
-    ghost view = { λ t. arc_slice_items t.shared };
-
-    ghost invariant = { λ t. IsTree (arc_slice_items t.shared) };
+    ghost view = { λ t. arc_value t.root };
 }
 
 impl Tree {
-    ghost use Rattle.formula_parse.specs.Tree.{IsTree};
-
-    pub(crate) fn of(terms: Vec<Term>) -> Result<Tree, AllocError>
-        requires { IsTree terms.items }
-        ensures { IfOk result (λ tree. tree ≡ terms.items) }
+    pub(crate) fn new(alloc: Global, root: Node) -> Result<Tree, AllocError>
+        ensures { IfOk result (λ tree. tree ≡ root) }
     {
         Ok(Tree {
-            shared: ArcSlice::from_vec(terms)?,
+            root: Arc::new(alloc, root)?,
         })
     }
 
-    /// The terms, from left to right.
-    pub fn terms(&self) -> &[Term]
-        ensures items { result.now ≡ self.now }
-        ensures tree { IsTree self.now }
+    /// The whole formula's node.
+    pub fn root(&self) -> &Node
+        ensures { result.now ≡ self.now }
     {
-        &self.shared
+        &self.root
     }
 
     /// A second hold on the same tree.
     pub fn copy(&self) -> Result<Tree, Memory>
         ensures { IfOk result (λ copy. copy ≡ self.now) }
     {
-        match self.shared.clone() {
-            Ok(shared) => Ok(Tree { shared }),
+        match Arc::try_clone(&self.root) {
+            Ok(root) => Ok(Tree { root }),
             Err(_) => Err(Memory),
         }
     }

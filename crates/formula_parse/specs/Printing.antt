@@ -1,0 +1,62 @@
+-- The canonical text of a tree: `=` and its tokens without spaces.
+use Rattle.std.specs.Prelude.{ℕ, unsigned_abs, Bool, true, false, List, [], ◌∷◌, ◌++◌, replicate, codes, decimal}
+use Rattle.std.specs.List.{flat_map}
+use Rattle.cell_refs.specs.Written.{reference_text}
+use Rattle.cell_values.specs.Error.{error_word}
+use Rattle.cell_values.specs.Word.{quoted}
+use Rattle.formula_parse.specs.declared.nodes.Node.{Node}
+use Rattle.formula_parse.specs.declared.nodes.Node.TheFolds.{fold-Node}
+use Rattle.formula_parse.specs.declared.nodes.Node.TheOpen.{Node-F}
+use Rattle.formula_parse.specs.declared.nodes.Node.TheOpen as layer
+use Rattle.formula_parse.specs.declared.operators.Operator.{Operator}
+use Rattle.formula_parse.specs.declared.operators.Operator.TheVariants as operators
+use Rattle.formula_parse.specs.declared.tokens.Token.{Token}
+use Rattle.formula_parse.specs.declared.tokens.Token.TheVariants as tokens
+use Rattle.formula_parse.specs.Tokens.{boolean_word, operator_text}
+
+-- a token in its canonical form
+abbrev pub token_text : Token → List ℕ
+token_text (tokens.Number n) = decimal (unsigned_abs n)
+token_text (tokens.Text t) = quoted t
+token_text (tokens.Error e) = error_word e
+token_text (tokens.Boolean b) = boolean_word b
+token_text (tokens.Reference r) = reference_text r
+token_text (tokens.Area a b) = reference_text a ++ 58 ∷ reference_text b
+token_text (tokens.Call name) = name ++ 40 ∷ []
+token_text tokens.Open = codes "("
+token_text tokens.Close = codes ")"
+token_text tokens.Comma = codes ","
+token_text (tokens.Operator op) = operator_text op
+
+-- arguments with a `,` between each two
+abbrev pub separated : List (List Token) → List Token
+separated [] = []
+separated (argument ∷ []) = argument
+separated (argument ∷ next ∷ arguments) = argument ++ tokens.Comma ∷ separated (next ∷ arguments)
+
+-- operands with their operators between them
+abbrev pub interleaved : List (List Token) → List Operator → List Token
+interleaved [] ops = []
+interleaved (operand ∷ operands) [] = operand
+interleaved (operand ∷ operands) (op ∷ ops) = operand ++ tokens.Operator op ∷ interleaved operands ops
+
+-- the tokens of one part of a tree, over those of its parts
+abbrev pub tokens_step : Node-F (List Token) → List Token
+tokens_step (layer.Number n) = tokens.Number n ∷ []
+tokens_step (layer.Text t) = tokens.Text t ∷ []
+tokens_step (layer.Error e) = tokens.Error e ∷ []
+tokens_step (layer.Boolean b) = tokens.Boolean b ∷ []
+tokens_step (layer.Reference r) = tokens.Reference r ∷ []
+tokens_step (layer.Area a b) = tokens.Area a b ∷ []
+tokens_step (layer.Call name arguments) = tokens.Call name ∷ (separated arguments ++ tokens.Close ∷ [])
+tokens_step (layer.Parentheses inner) = tokens.Open ∷ (inner ++ tokens.Close ∷ [])
+tokens_step (layer.Negation count operand) = replicate count (tokens.Operator operators.Subtract) ++ operand
+tokens_step (layer.Chain operands ops) = interleaved operands ops
+
+-- the tokens of a tree, without any `+` before an operand
+abbrev pub tokens_of : Node → List Token
+tokens_of = fold-Node (List Token) tokens_step
+
+-- the canonical text of a tree
+unfoldable pub printed : Node → List ℕ
+printed tree = 61 ∷ flat_map token_text (tokens_of tree)

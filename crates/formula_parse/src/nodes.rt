@@ -1,0 +1,28 @@
+use super::operators::Operator;
+use cell_refs::RefText;
+use cell_values::{ErrorKind, Name, Text};
+use sqlite_items::{Boxed, Items};
+
+/// A part of a formula.
+#[derive(Debug, Drop)]
+pub enum Node {
+    Number(i64),
+    Text(Text),
+    Error(ErrorKind),
+    Boolean(bool),
+    Reference(RefText),
+    Area(RefText, RefText),
+    Call {
+        name: Name,
+        arguments: Items<Node>,
+    },
+    Parentheses(Boxed<Node>),
+    Negation {
+        count: u32,
+        operand: Boxed<Node>,
+    },
+    Chain {
+        operands: Items<Node>,
+        operators: Items<Operator>,
+    },
+}

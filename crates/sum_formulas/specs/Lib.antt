@@ -1,0 +1,6 @@
+-- What the contracts of this crate cite.
+pub mod Grammar
+pub mod Parsed
+pub mod Progress
+pub mod Reading
+pub mod Tree
