@@ -1,1 +1,4 @@
--- lemmas
+-- Lemmas of this crate.
+pub mod LexingLaws
+pub mod Machine
+pub mod MachineLaws

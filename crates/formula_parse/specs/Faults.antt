@@ -1,7 +1,7 @@
 -- Formulas within the limits, and why a text is none.
 use Rattle.std.specs.Prelude.{◌≡◌, ◌⊎◌, ℕ, ◌<◌, ◌≤◌, Bool, true, false, List, [], ◌∷◌, ◌++◌, length, drop, take, All, Any}
 use Rattle.std.specs.List.{list_any, count_by}
-use Rattle.std.specs.Str.{chars}
+use Rattle.std.specs.Str.{is_utf8, chars}
 use Rattle.formula_parse.specs.declared.nodes.Node.{Node}
 use Rattle.formula_parse.specs.declared.tokens.Token.{Token}
 use Rattle.formula_parse.specs.declared.tokens.Token.TheVariants as tokens
@@ -50,9 +50,9 @@ pub record IsSyntaxPlace (text : List ℕ) (place : ℕ) : Type 0 where
   pub viable : IsViable (take place text)
   pub longest : (n : ℕ) → n ≤ length text → IsViable (take n text) → n ≤ place
 
--- a text has at most 8,192 characters
+-- a text is UTF-8 of at most 8,192 characters
 abbrev pub IsShort : List ℕ → Type 0
-IsShort text = length (chars text) ≤ 8192
+IsShort text = (is_utf8 text ≡ true) × (length (chars text) ≤ 8192)
 
 -- a text within the limits of length and depth
 abbrev pub IsShallow : List ℕ → Type 0

@@ -6,3 +6,4 @@ pub mod Printing
 pub mod Reading
 pub mod Tokens
 pub mod Tree
+pub mod Turns

@@ -1,6 +1,6 @@
 -- Reading a text from left to right, token by token.
 use Rattle.std.specs.Prelude.{ℕ, zero, suc, ◌+◌, ◌-◌, ◌==◌, pos, int_lt, Bool, true, false, ◌&&◌, ◌||◌, if◌then◌else◌, nat_lt, nat_le, List, [], ◌∷◌, ◌++◌, length, drop, take_while, Option, Some, None, option_map, option_and_then, Result, Ok, Err}
-use Rattle.std.specs.Str.{chars}
+use Rattle.std.specs.Str.{is_utf8, chars}
 use Rattle.std.specs.Result.{result_ok}
 use Rattle.cell_refs.specs.Area.{area_of, size_of}
 use Rattle.formula_parse.specs.declared.faults.ParseFault.{ParseFault}
@@ -36,6 +36,11 @@ place_of_chain chain = place_of_first chain.operators
 -- a chain with its last operand
 abbrev pub closed : OpenChain → Node → Node
 closed chain last = nodes.Chain (chain.operands ++ last ∷ []) chain.operators
+
+-- whether the tightest chain is tighter than a place
+abbrev pub is_tighter : ℕ → List OpenChain → Bool
+is_tighter place [] = false
+is_tighter place (chain ∷ chains) = nat_lt place (place_of_chain chain)
 
 -- an operand with the chains closed round it that are tighter than a place, and the other chains
 abbrev pub bound : ℕ → Node → List OpenChain → Node × List OpenChain
@@ -87,6 +92,12 @@ calls_open (frame ∷ frames) = frame.calls
 -- a new frame behind signs of which so many are `-`
 abbrev pub with_frame : Opened → ℕ → ℕ → List Frame → List Frame
 with_frame what minuses calls frames = (record { opened = what; minuses = minuses; calls = calls; chains = [] }) ∷ frames
+
+-- how many `-` stand before the operand that is awaited
+abbrev pub minuses_in : Phase → ℕ
+minuses_in phases.Start = 0
+minuses_in (phases.Signs minuses) = minuses
+minuses_in (phases.After operand) = 0
 
 -- a phase and the frames
 abbrev pub Turn : Type 0
@@ -266,4 +277,4 @@ parsed text = if is_too_long text then Err faults.TooLong else read_text text
 
 -- the tree of the formula that a text is
 unfoldable pub formula_of : List ℕ → Option Node
-formula_of text = result_ok (parsed text)
+formula_of text = if is_utf8 text then result_ok (parsed text) else None

@@ -1,16 +1,28 @@
-//! The grammar of formulas.
+//! The grammar of formulas: texts and their trees, both ways.
 #![tactic(auto)]
 
 mod faults;
+mod laws;
+mod lexing;
+mod naming;
 mod nodes;
 mod operators;
+mod parser;
+mod printer;
 mod reader;
 mod stack;
 mod tokens;
 mod trees;
 
 pub use faults::ParseFault;
+pub use laws::{
+    a_text_has_one_tree, each_fault_has_its_cause, reading_gives_what_is_written,
+    what_is_printed_reads_back,
+};
+pub use naming::{names, sites};
 pub use nodes::Node;
 pub use operators::Operator;
+pub use parser::parse;
+pub use printer::print;
 pub use tokens::Token;
 pub use trees::Tree;

@@ -22,11 +22,18 @@ impl Model for Tree {
 
     ghost coded = { Prim.hlevel (codes, e.the_row.coded) };
 
+    ghost use Rattle.formula_parse.specs.Tree.{IsTree};
+
     ghost view = { λ t. arc_value t.root };
+
+    ghost invariant = { λ t. IsTree (arc_value t.root) };
 }
 
 impl Tree {
+    ghost use Rattle.formula_parse.specs.Tree.{IsTree};
+
     pub(crate) fn new(alloc: Global, root: Node) -> Result<Tree, AllocError>
+        requires { IsTree root }
         ensures { IfOk result (λ tree. tree ≡ root) }
     {
         Ok(Tree {
@@ -36,7 +43,8 @@ impl Tree {
 
     /// The whole formula's node.
     pub fn root(&self) -> &Node
-        ensures { result.now ≡ self.now }
+        ensures value { result.now ≡ self.now }
+        ensures tree { IsTree self.now }
     {
         &self.root
     }

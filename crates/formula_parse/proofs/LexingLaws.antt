@@ -1,0 +1,39 @@
+-- The token at the front of a text is the one that the grammar writes there.
+use Rattle.std.specs.Prelude.{◌≡◌, ℕ, suc, ◌<◌, ◌≤◌, Bool, true, false, List, [], ◌∷◌, ◌++◌, length, take, drop, Option, Some, None}
+use Rattle.formula_parse.specs.declared.nodes.Node.{Node}
+use Rattle.formula_parse.specs.declared.reader.Frame.{Frame}
+use Rattle.formula_parse.specs.declared.reader.Phase.{Phase}
+use Rattle.formula_parse.specs.declared.reader.Phase.TheVariants as phases
+use Rattle.formula_parse.specs.declared.tokens.Token.{Token}
+use Rattle.formula_parse.specs.Lexing.{token_at, begun_len}
+use Rattle.formula_parse.specs.Reading.{turn_at, awaits_operand}
+use Rattle.formula_parse.specs.Tokens.{Writes, goes_on_with}
+use Rattle.formula_parse.proofs.Machine.{is_operand}
+
+-- what is found is written there, and nothing goes on with it
+pub found_is_written : (text : List ℕ) (token : Token) (n : ℕ) → token_at text ≡ Some (token, n) → (0 < n) × (n ≤ length text) × Writes (take n text) token × (goes_on_with token (drop n text) ≡ false)
+found_is_written text token n h = ?
+
+-- what is written, and doesn't go on, is found
+pub written_is_found : (piece rest : List ℕ) (token : Token) → Writes piece token → goes_on_with token rest ≡ false → token_at (piece ++ rest) ≡ Some (token, length piece)
+written_is_found piece rest token w e = ?
+
+-- what is found depends on the token and on one byte behind it
+pub found_again : (text rest : List ℕ) (token : Token) (n m : ℕ) → token_at text ≡ Some (token, n) → n < m → m ≤ length text → token_at (take m text ++ rest) ≡ Some (token, n)
+found_again text rest token n m h l b = ?
+
+-- how much of a text an operand begins with is no more than the text
+pub begun_is_within : (text : List ℕ) → begun_len text ≤ length text
+begun_is_within text = ?
+
+-- where no token stands whole and something has begun, an operand goes on with it
+pub begun_goes_on : (text : List ℕ) → token_at text ≡ None → 0 < begun_len text → (more : List ℕ) × (token : Token) × (is_operand token ≡ true) × Writes (take (begun_len text) text ++ more) token
+begun_goes_on text n b = ?
+
+-- where an operand is awaited and the token at the front can't stand, no token that can begins with one byte more than has begun
+pub no_operand_goes_on : (text rest piece more : List ℕ) (phase : Phase) (frames : List Frame) (token : Token) → awaits_operand phase ≡ true → ((other : Token) (n : ℕ) → token_at text ≡ Some (other, n) → turn_at phase frames other ≡ None) → begun_len text < length text → take (suc (begun_len text)) text ++ rest ≡ piece ++ more → Writes piece token → goes_on_with token more ≡ false → turn_at phase frames token ≡ None
+no_operand_goes_on text rest piece more phase frames token a s l e w g = ?
+
+-- behind an operand, where the token at the front can't stand, no token that can begins with its first byte
+pub no_operator_goes_on : (text rest piece more : List ℕ) (operand : Node) (frames : List Frame) (token : Token) → ((other : Token) (n : ℕ) → token_at text ≡ Some (other, n) → turn_at (phases.After operand) frames other ≡ None) → 0 < length text → take 1 text ++ rest ≡ piece ++ more → Writes piece token → turn_at (phases.After operand) frames token ≡ None
+no_operator_goes_on text rest piece more operand frames token s l e w = ?

@@ -1,0 +1,32 @@
+//! Laws over the definitions, each the contract of a function without a body.
+
+ghost use Rattle.std.specs.Prelude.{◌≡◌, ◌↔◌, ℕ, List, Some, Err};
+ghost use Rattle.formula_parse.specs.declared.faults.ParseFault.TheVariants as faults;
+ghost use Rattle.formula_parse.specs.declared.nodes.Node.{Node};
+ghost use Rattle.std.specs.Str.{is_utf8};
+ghost use Rattle.formula_parse.specs.Faults.{IsFormula, IsShort, IsTooDeep, IsSyntaxFault, IsRangeFault, IsNumberFault};
+ghost use Rattle.formula_parse.specs.Printing.{printed};
+ghost use Rattle.formula_parse.specs.Reading.{formula_of, parsed};
+
+/// Reading a text from left to right gives exactly the tree that the grammar lets it write.
+pub fn reading_gives_what_is_written()
+    ensures { (text : List ℕ) (tree : Node) → IsFormula text tree ↔ (formula_of text ≡ Some tree) }
+{}
+
+/// A text is a formula of one tree at most.
+pub fn a_text_has_one_tree()
+    ensures { (text : List ℕ) (a b : Node) → IsFormula text a → IsFormula text b → a ≡ b }
+{}
+
+/// Each fault is answered exactly where its cause stands.
+pub fn each_fault_has_its_cause()
+    ensures too_deep { (text : List ℕ) → IsShort text → IsTooDeep text ↔ (parsed text ≡ Err faults.TooDeep) }
+    ensures syntax { (text : List ℕ) (place : ℕ) → IsShort text → IsSyntaxFault text place ↔ (parsed text ≡ Err (faults.Syntax place)) }
+    ensures bad_range { (text : List ℕ) → IsShort text → IsRangeFault text ↔ (parsed text ≡ Err faults.BadRange) }
+    ensures number_too_large { (text : List ℕ) → IsShort text → IsNumberFault text ↔ (parsed text ≡ Err faults.NumberTooLarge) }
+{}
+
+/// The canonical text of a tree is a formula of that tree.
+pub fn what_is_printed_reads_back()
+    ensures { (text : List ℕ) (tree : Node) → IsFormula text tree → IsFormula (printed tree) tree }
+{}

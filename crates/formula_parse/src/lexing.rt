@@ -1,0 +1,55 @@
+//! The token at the front of a text.
+
+mod begun;
+mod marks;
+mod quotes;
+mod words;
+
+ghost use Rattle.std.specs.Prelude.{◌≡◌, ◌≤◌, ℕ, length, drop, Some, ◌⊎◌};
+ghost use Rattle.formula_parse.specs.Lexing.{token_at, number_at};
+
+pub(crate) use begun::begun_len;
+
+use super::faults::ParseFault;
+use super::tokens::Token;
+use std::alloc::Global;
+
+/// The least number over the limit of numbers.
+const TOO_LARGE: u64 = 1_000_000_000_000_000;
+
+/// A token and its length in bytes, where one stands there.
+pub(crate) type Found = Option<(Token, usize)>;
+
+/// The token at a place of the text; None where none stands there whole.
+#[tactic(auto, unfolding(crate::specs::Lexing::token_at))]
+pub(crate) fn token_at(alloc: Global, text: &str, place: usize) -> Result<Found, ParseFault>
+    requires within { place ≤ length text.now }
+    requires short { length text.now ≤ 32768 }
+    ensures { (result ≡ Err ParseFault.Memory) ⊎ (result ≡ Ok (token_at (drop place text.now))) }
+{
+    let rest = &text.as_bytes()[place..];
+    match rest.first() {
+        None => Ok(None),
+        Some(byte) if byte.is_ascii_digit() => Ok(Some(number(rest))),
+        Some(b'"') => quotes::text_behind(alloc, text, place + 1),
+        Some(b'#') => Ok(words::error(rest)),
+        Some(byte) if byte.is_ascii_alphabetic() || *byte == b'$' => words::word(alloc, rest),
+        Some(byte) => Ok(marks::mark(*byte, &rest[1..])),
+    }
+}
+
+/// The digits at the front, to their end.
+fn number(text: &[u8]) -> (Token, usize)
+    ensures { Some result ≡ number_at text.now }
+{
+    let mut number = 0;
+    let mut len = 0;
+    for byte in text {
+        if !byte.is_ascii_digit() {
+            break;
+        }
+        number = (10 * number + u64::from(byte - b'0')).min(TOO_LARGE);
+        len += 1;
+    }
+    (Token::Number(number as i64), len)
+}
