@@ -42,40 +42,31 @@ is_too_long_then text h = ap (λ b. if b then Err faults.TooLong else read_text 
 abbrev Answers : List ℕ → Result Node ParseFault → Type 0
 Answers text result = (result ≡ Err faults.Memory) ⊎ (result ≡ parsed text)
 
--- an answer that isn't want of memory
-meant : (text : List ℕ) (result answer : Result Node ParseFault) → Answers text result → result ≡ answer → (answer ≡ Err faults.Memory → ⊥) → parsed text ≡ answer
-meant text result answer (inl memory) e n = absurd (n (sym e ∙ memory))
+-- whether an answer is want of memory
+abbrev is_memory : Result Node ParseFault → Bool
+is_memory (Ok tree) = false
+is_memory (Err faults.Memory) = true
+is_memory (Err other) = false
+
+-- an answer that isn't
+meant : (text : List ℕ) (result answer : Result Node ParseFault) → Answers text result → result ≡ answer → is_memory answer ≡ false → parsed text ≡ answer
+meant text result answer (inl memory) e n = let t : true ≡ false = sym (ap is_memory (sym e ∙ memory)) ∙ n in cc
 meant text result answer (inr exact) e n = sym exact ∙ e
 
 pub ok_clause : (text : List ℕ) (result : Result Node ParseFault) (tree : Node) → is_utf8 text ≡ true → Answers text result → result ≡ Ok tree → IsFormula text tree
-ok_clause text result tree u a e = let c = cause_if text (Ok tree) u (meant text result (Ok tree) a e (λ h. no h)) refl in formed_is_formula text tree c.0 c.1
-  where
-    no : Ok tree ≡ Err faults.Memory → ⊥
-    no h = cc
+ok_clause text result tree u a e = let c = cause_if text (Ok tree) u (meant text result (Ok tree) a e refl) refl in formed_is_formula text tree c.0 c.1
 
 pub read_clause : (text : List ℕ) (result : Result Node ParseFault) (tree : Node) → is_utf8 text ≡ true → Answers text result → result ≡ Ok tree → formula_of text ≡ Some tree
 read_clause text result tree u a e = formula_back text tree (ok_clause text result tree u a e)
 
 pub deep_clause : (text : List ℕ) (result : Result Node ParseFault) → is_utf8 text ≡ true → Answers text result → result ≡ Err faults.TooDeep → IsShort text × IsTooDeep text
-deep_clause text result u a e = cause_if text (Err faults.TooDeep) u (meant text result (Err faults.TooDeep) a e (λ h. no h)) refl
-  where
-    no : Err faults.TooDeep ≡ Err faults.Memory → ⊥
-    no h = cc
+deep_clause text result u a e = cause_if text (Err faults.TooDeep) u (meant text result (Err faults.TooDeep) a e refl) refl
 
 pub syntax_clause : (text : List ℕ) (result : Result Node ParseFault) (place : ℕ) → is_utf8 text ≡ true → Answers text result → result ≡ Err (faults.Syntax place) → IsSyntaxFault text place
-syntax_clause text result place u a e = let c = cause_if text (Err (faults.Syntax place)) u (meant text result (Err (faults.Syntax place)) a e (λ h. no h)) refl in syntax_cause text place c.0 c.1
-  where
-    no : Err (faults.Syntax place) ≡ Err faults.Memory → ⊥
-    no h = cc
+syntax_clause text result place u a e = let c = cause_if text (Err (faults.Syntax place)) u (meant text result (Err (faults.Syntax place)) a e refl) refl in syntax_cause text place c.0 c.1
 
 pub range_clause : (text : List ℕ) (result : Result Node ParseFault) → is_utf8 text ≡ true → Answers text result → result ≡ Err faults.BadRange → IsRangeFault text
-range_clause text result u a e = let c = cause_if text (Err faults.BadRange) u (meant text result (Err faults.BadRange) a e (λ h. no h)) refl in range_cause text c.0 c.1
-  where
-    no : Err faults.BadRange ≡ Err faults.Memory → ⊥
-    no h = cc
+range_clause text result u a e = let c = cause_if text (Err faults.BadRange) u (meant text result (Err faults.BadRange) a e refl) refl in range_cause text c.0 c.1
 
 pub number_clause : (text : List ℕ) (result : Result Node ParseFault) → is_utf8 text ≡ true → Answers text result → result ≡ Err faults.NumberTooLarge → IsNumberFault text
-number_clause text result u a e = let c = cause_if text (Err faults.NumberTooLarge) u (meant text result (Err faults.NumberTooLarge) a e (λ h. no h)) refl in number_cause text c.0 c.1
-  where
-    no : Err faults.NumberTooLarge ≡ Err faults.Memory → ⊥
-    no h = cc
+number_clause text result u a e = let c = cause_if text (Err faults.NumberTooLarge) u (meant text result (Err faults.NumberTooLarge) a e refl) refl in number_cause text c.0 c.1
