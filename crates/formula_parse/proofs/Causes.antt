@@ -58,10 +58,11 @@ ends_cause : (front rest : List ℕ) (ts : List Token) (last : Reader) (answer :
 ends_cause front rest ts last answer r (inl whole) = subst (Cause (61 ∷ (front ++ rest))) (sym whole.gives) (end_cause front rest ts last r whole.spaces (ended last.phase last.frames) refl)
 ends_cause front rest ts last answer r (inr (inl stuck)) =
     let r' = subst (λ x. Reads first_reader front x ts last) stuck.parts r in
-    subst (Cause (61 ∷ (front ++ rest))) (sym stuck.gives) (subst (λ x. Cause (61 ∷ (front ++ x)) (Err (faults.Syntax (1 + length front + length stuck.gap + Rattle.formula_parse.specs.Reading.begun_behind last.phase stuck.stop)))) (sym stuck.parts)
-      (shallow_text front (stuck.gap ++ stuck.stop) ts last r' (inr (stuck.gap, stuck.stop, refl, stuck.spaces, stuck.full, stuck.stuck)),
-       (λ written tree formula. stuck_is_no_formula front stuck.gap stuck.stop ts written last tree r' stuck.spaces stuck.full stuck.stuck formula),
-       stuck_place front stuck.gap stuck.stop ts last r' stuck.spaces stuck.full stuck.stuck))
+    subst (Cause (61 ∷ (front ++ rest))) (sym stuck.gives) (subst (λ x. Cause (61 ∷ (front ++ x)) (Err (faults.Syntax (1 + length front + length stuck.gap + Rattle.formula_parse.specs.Reading.begun_behind last.phase stuck.stop)))) (sym stuck.parts) (
+      shallow_text front (stuck.gap ++ stuck.stop) ts last r' (inr (stuck.gap, stuck.stop, refl, stuck.spaces, stuck.full, stuck.stuck)),
+      (λ written tree formula. stuck_is_no_formula front stuck.gap stuck.stop ts written last tree r' stuck.spaces stuck.full stuck.stuck formula),
+      stuck_place front stuck.gap stuck.stop ts last r' stuck.spaces stuck.full stuck.stuck,
+    ))
 ends_cause front rest ts last answer r (inr (inr deep)) = subst (Cause (61 ∷ (front ++ rest))) (sym deep.gives) (deep_text front rest ts last answer r deep)
 
 -- a text without `=` in front
@@ -90,6 +91,7 @@ by_equals b rest false e = no_equals_cause (b ∷ rest) (λ r h. other b rest r 
       where
         heads : (b c : ℕ) (bs cs : List ℕ) → b ∷ bs ≡ c ∷ cs → b ≡ c
         heads b c bs cs h = cc
+
         same : (b : ℕ) → b ≡ 61 → (b == 61) ≡ false → ⊥
         same b h e = let f : (61 == 61) ≡ false = subst (λ c. (c == 61) ≡ false) h e in cc
 
@@ -118,13 +120,13 @@ same_formula : (rest : List ℕ) (v w : List Token) (a b : Node) → ¬ IsTooDee
 same_formula rest v w a b n f g =
     let o = outcome_from (suc (length rest)) first_reader 1 rest (omega arith) in
     same_by_end o.front o.rest o.tokens o.last (read_from (suc (length rest)) first_reader 1 rest) v w a b o.reads o.ends
-      (subst (λ t. ¬ IsTooDeep (61 ∷ t)) o.parts n) (subst (λ t. IsUnlimitedFormula (61 ∷ t) v a) o.parts f) (subst (λ t. IsUnlimitedFormula (61 ∷ t) w b) o.parts g)
+    (subst (λ t. ¬ IsTooDeep (61 ∷ t)) o.parts n) (subst (λ t. IsUnlimitedFormula (61 ∷ t) v a) o.parts f) (subst (λ t. IsUnlimitedFormula (61 ∷ t) w b) o.parts g)
 
 pub one_formula : (text : List ℕ) (a b : Node) (x : Formed text a) (y : Formed text b) → (x.written ≡ y.written) × (a ≡ b)
 one_formula text a b x y =
     let begins = x.formula.begins in
     same_formula x.formula.rest x.written y.written a b (subst (λ t. ¬ IsTooDeep t) begins x.shallow)
-      (formula_at text x.formula.rest x.written a begins x.formula) (formula_at text x.formula.rest y.written b begins y.formula)
+    (formula_at text x.formula.rest x.written a begins x.formula) (formula_at text x.formula.rest y.written b begins y.formula)
 
 same_place : (text : List ℕ) (p q : ℕ) → IsSyntaxPlace text p → IsSyntaxPlace text q → p ≡ q
 same_place text p q x y = omega (arith, x.longest q y.within y.viable, y.longest p x.within x.viable)

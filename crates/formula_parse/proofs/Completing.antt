@@ -80,8 +80,8 @@ pub operand_closed : (written : List Token) (turn : Turn) (token : Token) → ra
 operand_closed written turn token h a o =
     let next = some_turn (turn_at turn.0 turn.1 token) (operands_are_taken turn token a o) in
     closed_behind (written ++ token ∷ []) next.0
-      (ran_on written (token ∷ []) first_turn turn h ∙ ap (λ made. Rattle.std.proofs.Common.option_and_then (λ x. Some x) made) next.1)
-      (operand_turns turn.0 turn.1 token next.0 a o next.1)
+    (ran_on written (token ∷ []) first_turn turn h ∙ ap (λ made. Rattle.std.proofs.Common.option_and_then (λ x. Some x) made) next.1)
+    (operand_turns turn.0 turn.1 token next.0 a o next.1)
 
 -- no token goes on with a row of `)`
 pub closes_end : (token : Token) (count : ℕ) → goes_on_with token (closes count) ≡ false
@@ -115,10 +115,13 @@ formula_of_parts front tail ts us written last tree r s e w = record {
 pub closing_viable : (front rest gap : List ℕ) (ts : List Token) (last : Reader) → Reads first_reader front rest ts last → (awaits_operand last.phase ≡ false) ⊎ (last.phase ≡ phases.Start) → are_spaces gap ≡ true → ((count : ℕ) → IsSafe rest (gap ++ closes count)) → IsViable (61 ∷ (front ++ gap))
 closing_viable front rest gap ts last r a g safe =
     let closed = closed_behind ts (turn_of last) (reads_run ts first_reader front rest last r) a in
-    let tail = gap ++ closes closed.count in
-    (closes closed.count, ts ++ replicate closed.count tokens.Close, closed.tree,
+    let tail = gap ++ closes closed.count in (
+      closes closed.count,
+      ts ++ replicate closed.count tokens.Close,
+      closed.tree,
       subst (λ t. IsUnlimitedFormula (61 ∷ t) (ts ++ replicate closed.count tokens.Close) closed.tree) (sym (append_assoc front gap (closes closed.count)))
-      (formula_of_parts front tail ts (replicate closed.count tokens.Close) (ts ++ replicate closed.count tokens.Close) last closed.tree (read_before ts first_reader front rest tail last (safe closed.count) r) (gap_closes_spell gap closed.count g) refl closed.formed))
+          (formula_of_parts front tail ts (replicate closed.count tokens.Close) (ts ++ replicate closed.count tokens.Close) last closed.tree (read_before ts first_reader front rest tail last (safe closed.count) r) (gap_closes_spell gap closed.count g) refl closed.formed),
+    )
 
 -- where an operand is awaited, what was read and an operand behind spaces begin a formula
 pub operand_viable : (front rest gap piece : List ℕ) (ts : List Token) (last : Reader) (token : Token) → Reads first_reader front rest ts last → awaits_operand last.phase ≡ true → are_spaces gap ≡ true → Writes piece token → is_operand token ≡ true → ((count : ℕ) → IsSafe rest (gap ++ (piece ++ closes count))) → IsViable (61 ∷ (front ++ (gap ++ piece)))
@@ -127,9 +130,12 @@ operand_viable front rest gap piece ts last token r a g w o safe =
     let more = closes closed.count in
     let us = token ∷ replicate closed.count tokens.Close in
     let spelled : IsSpelled (gap ++ (piece ++ more)) us = (gap, piece, more, refl, g, w, closes_end token closed.count, closes_spell closed.count) in
-    let formula = formula_of_parts front (gap ++ (piece ++ more)) ts us ((ts ++ token ∷ []) ++ replicate closed.count tokens.Close) last closed.tree (read_before ts first_reader front rest (gap ++ (piece ++ more)) last (safe closed.count) r) spelled (sym (append_assoc ts (token ∷ []) (replicate closed.count tokens.Close))) closed.formed in
-    (more, (ts ++ token ∷ []) ++ replicate closed.count tokens.Close, closed.tree,
-      subst (λ t. IsUnlimitedFormula (61 ∷ t) ((ts ++ token ∷ []) ++ replicate closed.count tokens.Close) closed.tree) (regrouped front gap piece more) formula)
+    let formula = formula_of_parts front (gap ++ (piece ++ more)) ts us ((ts ++ token ∷ []) ++ replicate closed.count tokens.Close) last closed.tree (read_before ts first_reader front rest (gap ++ (piece ++ more)) last (safe closed.count) r) spelled (sym (append_assoc ts (token ∷ []) (replicate closed.count tokens.Close))) closed.formed in (
+      more,
+      (ts ++ token ∷ []) ++ replicate closed.count tokens.Close,
+      closed.tree,
+      subst (λ t. IsUnlimitedFormula (61 ∷ t) ((ts ++ token ∷ []) ++ replicate closed.count tokens.Close) closed.tree) (regrouped front gap piece more) formula,
+    )
   where
     regrouped : (front gap piece more : List ℕ) → front ++ (gap ++ (piece ++ more)) ≡ (front ++ (gap ++ piece)) ++ more
     regrouped front gap piece more = ap (λ x. front ++ x) (sym (append_assoc gap piece more)) ∙ sym (append_assoc front (gap ++ piece) more)

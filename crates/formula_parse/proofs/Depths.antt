@@ -34,9 +34,9 @@ pub deep_is_over : (written : List Token) (turn : Turn) → ran first_turn writt
 deep_is_over written turn h d =
     let counted = open_is_counted written turn h in
     ⊎_elim
-      (λ calls. inl (omega (arith, counted.0, ltb-true 64 (calls_open turn.1) calls)))
-      (λ all. inr (omega (arith, counted.1, ltb-true 129 (length turn.1) all)))
-      (or_cases (nat_lt 64 (calls_open turn.1)) (nat_lt 129 (length turn.1)) d)
+    (λ calls. inl (omega (arith, counted.0, ltb-true 64 (calls_open turn.1) calls)))
+    (λ all. inr (omega (arith, counted.1, ltb-true 129 (length turn.1) all)))
+    (or_cases (nat_lt 64 (calls_open turn.1)) (nat_lt 129 (length turn.1)) d)
 
 -- and the other way round
 pub shallow_is_not_over : (written : List Token) (turn : Turn) → ran first_turn written ≡ Some turn → is_too_deep turn.1 ≡ false → IsOverOpen written → ⊥
@@ -44,9 +44,9 @@ shallow_is_not_over written turn h d over =
     let counted = open_is_counted written turn h in
     let both = neither (nat_lt 64 (calls_open turn.1)) (nat_lt 129 (length turn.1)) d in
     ⊎_elim
-      (λ calls. omega (arith, calls, counted.0, ltb-false 64 (calls_open turn.1) both.0))
-      (λ all. omega (arith, all, counted.1, ltb-false 129 (length turn.1) both.1))
-      over
+    (λ calls. omega (arith, calls, counted.0, ltb-false 64 (calls_open turn.1) both.0))
+    (λ all. omega (arith, all, counted.1, ltb-false 129 (length turn.1) both.1))
+    over
   where
     neither : (a b : Bool) → (a || b) ≡ false → (a ≡ false) × (b ≡ false)
     neither true b h = cc
@@ -124,8 +124,8 @@ pub deep_text : (front rest : List ℕ) (ts : List Token) (last : Reader) (answe
 deep_text front rest ts last answer r e =
     let r' = subst (λ x. Reads first_reader front x ts last) e.parts r in
     subst (λ x. IsTooDeep (61 ∷ (front ++ x))) (sym e.parts)
-      (deep_parts front e.gap e.piece e.behind ts last e.next e.token r' e.spaces e.writes e.steps e.deep
-        (continued (ts ++ e.token ∷ []) (turn_of e.next) (run_to front (e.gap ++ (e.piece ++ e.behind)) ts last e.next e.token r' e.steps) (awaits_operand e.next.phase) refl))
+    (deep_parts front e.gap e.piece e.behind ts last e.next e.token r' e.spaces e.writes e.steps e.deep
+    (continued (ts ++ e.token ∷ []) (turn_of e.next) (run_to front (e.gap ++ (e.piece ++ e.behind)) ts last e.next e.token r' e.steps) (awaits_operand e.next.phase) refl))
 
 -- a token that goes on with some byte opens nothing
 opens_nothing : (token : Token) (b : ℕ) (outer : List Bool) → goes_on token b ≡ true → open_behind outer (token ∷ []) ≡ outer
@@ -207,6 +207,7 @@ spelled_within [] pre reader last front rest cut other (f ∷ fs) back end run s
   where
     regrouped : front ++ rest ≡ gap ++ (piece ++ (inner ++ other))
     regrouped = at ∙ (ap (λ x. x ++ other) cut_at ∙ (append_assoc gap (piece ++ inner) other ∙ ap (λ x. gap ++ x) (append_assoc piece inner other)))
+
     by_test : (test : Bool) → goes_on_with f (inner ++ other) ≡ test → ⊥
     by_test true on = first_alone pre reader f fs inner other run shallow apart on more over
     by_test false off = found_ends last rest gap piece (inner ++ other) f (fs ++ back) end e (sym (ap (λ x. x ++ rest) r.0) ∙ regrouped) spaces writes off (subst (λ x. ran (turn_of x) (f ∷ (fs ++ back)) ≡ Some end) (sym r.1) h)
@@ -214,6 +215,7 @@ spelled_within (t ∷ ts) pre reader last front rest cut other (f ∷ fs) back e
   where
     regrouped : gap' ++ (piece' ++ (behind ++ rest)) ≡ gap ++ (piece ++ (inner ++ other))
     regrouped = sym (ap (λ x. x ++ rest) front_at ∙ (append_assoc gap' (piece' ++ behind) rest ∙ ap (λ x. gap' ++ x) (append_assoc piece' behind rest))) ∙ (at ∙ (ap (λ x. x ++ other) cut_at ∙ (append_assoc gap (piece ++ inner) other ∙ ap (λ x. gap ++ x) (append_assoc piece inner other))))
+
     by_test : (test : Bool) → goes_on_with f (inner ++ other) ≡ test → Bounded ts → ⊥
     by_test true on ih = first_alone pre reader f fs inner other run shallow apart on more over
     by_test false off ih =

@@ -45,13 +45,13 @@ reference_operand : (text : List ℕ) (found : Option (RefText × ℕ)) → IsOp
 reference_operand text None = none_operand
 reference_operand text (Some found) =
     either_operand _ (area_behind text found.0 found.1 (reference_at (drop (found.1 + 1) text))) _ (area_operand text found.0 found.1 (reference_at (drop (found.1 + 1) text)))
-      (either_operand _ None (Some (tokens.Reference found.0, found.1)) none_operand (some_operand (tokens.Reference found.0, found.1) refl))
+    (either_operand _ None (Some (tokens.Reference found.0, found.1)) none_operand (some_operand (tokens.Reference found.0, found.1) refl))
 
 word_operand : (text word : List ℕ) → IsOperandIf (word_found text word)
 word_operand text word =
     either_operand _ (Some (tokens.Call (capitals word), length word + 1)) _ (some_operand (tokens.Call (capitals word), length word + 1) refl)
-      (either_operand _ (Some (tokens.Boolean true, 4)) _ (some_operand (tokens.Boolean true, 4) refl)
-        (either_operand _ (Some (tokens.Boolean false, 5)) (reference_found text (reference_at text)) (some_operand (tokens.Boolean false, 5) refl) (reference_operand text (reference_at text))))
+    (either_operand _ (Some (tokens.Boolean true, 4)) _ (some_operand (tokens.Boolean true, 4) refl)
+    (either_operand _ (Some (tokens.Boolean false, 5)) (reference_found text (reference_at text)) (some_operand (tokens.Boolean false, 5) refl) (reference_operand text (reference_at text))))
 
 -- where the found token is no operand, its first byte begins none
 by_tests : (b : ℕ) (rest : List ℕ) (token : Token) (n : ℕ) → is_operand token ≡ false → (digit quote hash word : Bool) → (if digit then number_at (b ∷ rest) else (if quote then text_behind rest else (if hash then error_at (b ∷ rest) else (if word then word_at (b ∷ rest) else mark_at b rest)))) ≡ Some (token, n) → (x y z : ℕ) → (if quote then x else (if hash then y else (if word then z else 0))) ≡ 0

@@ -146,7 +146,7 @@ outcome_deep fuel ih reader next place gap stop h s token n e m true d =
 outcome_deep fuel ih reader next place gap stop h s token n e m false d =
     let found = found_is_written stop token n e in
     one_more reader next place (gap ++ stop) gap (take n stop) (drop n stop) token _ (ap (λ x. gap ++ x) (sym (take-append-drop n stop))) s found.2 found.3 m d
-      (subst (λ len. Outcome next (place + length gap + len) (drop n stop) (read_from fuel next (place + length gap + n) (drop n stop))) (sym (length-take-le n stop found.1)) (ih next (place + length gap + n) (drop n stop) (shorter fuel n gap stop h found.0 found.1)))
+    (subst (λ len. Outcome next (place + length gap + len) (drop n stop) (read_from fuel next (place + length gap + n) (drop n stop))) (sym (length-take-le n stop found.1)) (ih next (place + length gap + n) (drop n stop) (shorter fuel n gap stop h found.0 found.1)))
 
 -- what can't stand there
 outcome_stuck : (reader : Reader) (place : ℕ) (gap stop : List ℕ) → are_spaces gap ≡ true → is_full stop ≡ true → IsStuck reader stop → Outcome reader place (gap ++ stop) (Err (faults.Syntax (place + length gap + begun_behind reader.phase stop)))
@@ -192,4 +192,4 @@ outcome_from (suc fuel) reader place text h =
     let stop = drop (gap_len text) text in
     let parts : text ≡ gap ++ stop = front_and_rest (λ b. b == 32) text in
     subst (λ t. Outcome reader place t (followed (read_from fuel) (read_token reader (place + length gap) stop))) (sym parts)
-      (outcome_token fuel (outcome_from fuel) reader place gap stop (subst (λ t. length t < suc fuel) parts h) (gap_spaces text) (full_behind text))
+    (outcome_token fuel (outcome_from fuel) reader place gap stop (subst (λ t. length t < suc fuel) parts h) (gap_spaces text) (full_behind text))

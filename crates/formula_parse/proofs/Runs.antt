@@ -28,11 +28,11 @@ pub record Stepped (reader : Reader) (token : Token) (next : Reader) : Type 0 wh
   pub large : next.has_large_number ≡ (reader.has_large_number || is_large_number token)
 
 stepped_turn : (reader : Reader) (token : Token) (next : Reader) (turn : Option Turn) → turn_at reader.phase reader.frames token ≡ turn → option_map (λ turn. record {
-      phase = turn.0;
-      frames = turn.1;
-      has_wide_area = reader.has_wide_area || is_wide_area token;
-      has_large_number = reader.has_large_number || is_large_number token;
-    }) turn ≡ Some next → Stepped reader token next
+  phase = turn.0;
+  frames = turn.1;
+  has_wide_area = reader.has_wide_area || is_wide_area token;
+  has_large_number = reader.has_large_number || is_large_number token;
+}) turn ≡ Some next → Stepped reader token next
 stepped_turn reader token next None t h = absurd (nothing next h)
   where
     nothing : (next : Reader) → None ≡ Some next → ⊥

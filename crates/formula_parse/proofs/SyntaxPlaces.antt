@@ -39,10 +39,10 @@ spaced_is_safe gap stop more = subst (IsSafe (gap ++ stop)) (sym (append_assoc g
 pub gap_viable : (front gap stop : List ℕ) (ts : List Token) (last : Reader) → Reads first_reader front (gap ++ stop) ts last → are_spaces gap ≡ true → (awaits : Bool) → awaits_operand last.phase ≡ awaits → IsViable (61 ∷ (front ++ gap))
 gap_viable front gap stop ts last r g false a =
     viable_front (61 ∷ (front ++ gap)) (32 ∷ []) (subst IsViable (ap (λ x. 61 ∷ x) (sym (append_assoc front gap (32 ∷ []))))
-      (closing_viable front (gap ++ stop) (gap ++ 32 ∷ []) ts last r (inl a) (one_space_more gap g) (λ count. spaced_is_safe gap stop (closes count))))
+    (closing_viable front (gap ++ stop) (gap ++ 32 ∷ []) ts last r (inl a) (one_space_more gap g) (λ count. spaced_is_safe gap stop (closes count))))
 gap_viable front gap stop ts last r g true a =
     viable_front (61 ∷ (front ++ gap)) (32 ∷ codes "1") (subst IsViable (ap (λ x. 61 ∷ x) (regrouped front gap))
-      (operand_viable front (gap ++ stop) (gap ++ 32 ∷ []) (codes "1") ts last (tokens.Number (pos 1)) r a (one_space_more gap g) one_written refl (λ count. spaced_is_safe gap stop (codes "1" ++ closes count))))
+    (operand_viable front (gap ++ stop) (gap ++ 32 ∷ []) (codes "1") ts last (tokens.Number (pos 1)) r a (one_space_more gap g) one_written refl (λ count. spaced_is_safe gap stop (codes "1" ++ closes count))))
   where
     regrouped : (front gap : List ℕ) → front ++ ((gap ++ 32 ∷ []) ++ codes "1") ≡ (front ++ gap) ++ (32 ∷ codes "1")
     regrouped front gap = ap (λ x. front ++ x) (append_assoc gap (32 ∷ []) (codes "1")) ∙ sym (append_assoc front gap (32 ∷ codes "1"))
@@ -79,7 +79,7 @@ begun_viable front gap stop ts last r g f stuck a b =
     let goes = begun_goes_on stop (begun_is_none stop (turn_of last) a stuck b) b in
     let piece = take (begun_len stop) stop ++ goes.0 in
     viable_front (61 ∷ (front ++ (gap ++ take (begun_len stop) stop))) goes.0 (subst IsViable (ap (λ x. 61 ∷ x) (regrouped front gap (take (begun_len stop) stop) goes.0))
-      (operand_viable front (gap ++ stop) gap piece ts last goes.1 r a g goes.3 goes.2 (λ count. subst (λ x. IsSafe (gap ++ stop) (gap ++ x)) (sym (append_assoc (take (begun_len stop) stop) goes.0 (closes count))) (taken_is_safe gap stop (goes.0 ++ closes count) (begun_len stop) f b))))
+    (operand_viable front (gap ++ stop) gap piece ts last goes.1 r a g goes.3 goes.2 (λ count. subst (λ x. IsSafe (gap ++ stop) (gap ++ x)) (sym (append_assoc (take (begun_len stop) stop) goes.0 (closes count))) (taken_is_safe gap stop (goes.0 ++ closes count) (begun_len stop) f b))))
   where
     regrouped : (front gap part more : List ℕ) → front ++ (gap ++ (part ++ more)) ≡ (front ++ (gap ++ part)) ++ more
     regrouped front gap part more = ap (λ x. front ++ x) (sym (append_assoc gap part more)) ∙ sym (append_assoc front (gap ++ part) more)
