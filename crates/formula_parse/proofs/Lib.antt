@@ -2,3 +2,4 @@
 pub mod LexingLaws
 pub mod Machine
 pub mod MachineLaws
+pub mod NodeLaws
