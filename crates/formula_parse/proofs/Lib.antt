@@ -3,3 +3,6 @@ pub mod LexingLaws
 pub mod Machine
 pub mod MachineLaws
 pub mod NodeLaws
+pub mod TurnGrammar
+pub mod TurnOpens
+pub mod TurnRuns

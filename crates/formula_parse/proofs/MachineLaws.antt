@@ -9,6 +9,7 @@ use Rattle.formula_parse.specs.Faults.{open_behind}
 use Rattle.formula_parse.specs.Grammar.{IsWritten}
 use Rattle.formula_parse.specs.Reading.{Turn, turn_at, awaits_operand, calls_open}
 use Rattle.formula_parse.proofs.Machine.{first_turn, ran, ended_behind, is_operand}
+use Rattle.formula_parse.proofs.TurnOpens.{operand_is_awaited, run_opens, opens_counted}
 
 -- what the turns read, the grammar writes
 pub what_is_read_is_written : (written : List Token) (turn : Turn) (tree : Node) → ran first_turn written ≡ Some turn → ended_behind turn ≡ Some tree → IsWritten tree 0 written
@@ -20,7 +21,7 @@ what_is_written_is_read written tree w = ?
 
 -- an operand can stand wherever one is awaited
 pub operands_are_taken : (turn : Turn) (token : Token) → awaits_operand turn.0 ≡ true → is_operand token ≡ true → IsSome (turn_at turn.0 turn.1 token)
-operands_are_taken turn token a o = ?
+operands_are_taken turn token a o = operand_is_awaited turn.0 turn.1 token a o
 
 -- behind an operand, or directly behind a name and `(`, closing all that is open ends a formula
 pub closing_ends : (written : List Token) (turn : Turn) → ran first_turn written ≡ Some turn → (awaits_operand turn.0 ≡ false) ⊎ (turn.0 ≡ phases.Start) → (count : ℕ) × (last : Turn) × (ran turn (replicate count tokens.Close) ≡ Some last) × IsSome (ended_behind last)
@@ -28,4 +29,4 @@ closing_ends written turn h a = ?
 
 -- what is open is what the tokens left open
 pub open_is_counted : (written : List Token) (turn : Turn) → ran first_turn written ≡ Some turn → (calls_open turn.1 ≡ count_by (λ is_call. is_call) (open_behind [] written)) × (length turn.1 ≡ suc (length (open_behind [] written)))
-open_is_counted written turn h = ?
+open_is_counted written turn h = opens_counted turn.1 (open_behind [] written) (run_opens written turn h)
