@@ -1,4 +1,5 @@
 -- Lemmas of this crate.
+pub mod ChainLinks
 pub mod LexingLaws
 pub mod Machine
 pub mod MachineLaws
