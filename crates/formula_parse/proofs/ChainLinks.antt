@@ -62,6 +62,15 @@ abbrev pub IsLooser : ℕ → List OpenChain → Type 0
 IsLooser place [] = Unit {0}
 IsLooser place (chain ∷ chains) = place_of_chain chain < place
 
+-- each chain is looser than a sign
+pub chains_are_low : (chains : List OpenChain) → IsLooser 4 chains
+chains_are_low [] = tt
+chains_are_low (chain ∷ chains) = chain_is_low chain.operands chain.operators
+  where
+    chain_is_low : (xs : List Node) (ops : List Operator) → place_of_chain (record { operands = xs; operators = ops }) < 4
+    chain_is_low xs [] = omega arith
+    chain_is_low xs (op ∷ ops) = let low = place_is_low op in omega arith
+
 -- the tokens of all chains, of which each is looser than the one in it
 abbrev pub AreChains : List OpenChain → List Token → Type 0
 AreChains [] written = written ≡ []

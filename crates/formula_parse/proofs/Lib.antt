@@ -7,3 +7,4 @@ pub mod NodeLaws
 pub mod TurnGrammar
 pub mod TurnOpens
 pub mod TurnRuns
+pub mod TurnStands
