@@ -4,6 +4,7 @@ pub mod LexingLaws
 pub mod Machine
 pub mod MachineLaws
 pub mod NodeLaws
+pub mod TurnCloses
 pub mod TurnGrammar
 pub mod TurnOpens
 pub mod TurnRuns

@@ -9,11 +9,14 @@ use Rattle.formula_parse.specs.Faults.{open_behind}
 use Rattle.formula_parse.specs.Grammar.{IsWritten}
 use Rattle.formula_parse.specs.Reading.{Turn, turn_at, awaits_operand, calls_open}
 use Rattle.formula_parse.proofs.Machine.{first_turn, ran, ended_behind, is_operand}
+use Rattle.formula_parse.proofs.TurnCloses.{turn_ends}
 use Rattle.formula_parse.proofs.TurnOpens.{operand_is_awaited, run_opens, opens_counted}
+use Rattle.formula_parse.proofs.TurnRuns.{of_some}
+use Rattle.formula_parse.proofs.TurnStands.{run_stands, ended_stands}
 
 -- what the turns read, the grammar writes
 pub what_is_read_is_written : (written : List Token) (turn : Turn) (tree : Node) → ran first_turn written ≡ Some turn → ended_behind turn ≡ Some tree → IsWritten tree 0 written
-what_is_read_is_written written turn tree h e = ?
+what_is_read_is_written written turn tree h e = of_some (λ t. IsWritten t 0 written) (ended_behind turn) tree e (ended_stands turn.0 turn.1 written (run_stands written turn h))
 
 -- what the grammar writes, the turns read
 pub what_is_written_is_read : (written : List Token) (tree : Node) → IsWritten tree 0 written → (turn : Turn) × (ran first_turn written ≡ Some turn) × (ended_behind turn ≡ Some tree)
@@ -25,7 +28,7 @@ operands_are_taken turn token a o = operand_is_awaited turn.0 turn.1 token a o
 
 -- behind an operand, or directly behind a name and `(`, closing all that is open ends a formula
 pub closing_ends : (written : List Token) (turn : Turn) → ran first_turn written ≡ Some turn → (awaits_operand turn.0 ≡ false) ⊎ (turn.0 ≡ phases.Start) → (count : ℕ) × (last : Turn) × (ran turn (replicate count tokens.Close) ≡ Some last) × IsSome (ended_behind last)
-closing_ends written turn h a = ?
+closing_ends written turn h a = turn_ends turn.0 turn.1 written (run_stands written turn h) a
 
 -- what is open is what the tokens left open
 pub open_is_counted : (written : List Token) (turn : Turn) → ran first_turn written ≡ Some turn → (calls_open turn.1 ≡ count_by (λ is_call. is_call) (open_behind [] written)) × (length turn.1 ≡ suc (length (open_behind [] written)))
