@@ -9,3 +9,4 @@ pub mod TurnGrammar
 pub mod TurnOpens
 pub mod TurnRuns
 pub mod TurnStands
+pub mod TurnTaken
