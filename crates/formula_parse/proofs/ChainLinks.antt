@@ -52,7 +52,7 @@ closed_written xs [] last written own some h w = absurd (omega arith)
 closed_written xs (op ∷ ops) last written own some h w = written_from (chain_is_written (xs ++ last ∷ []) (op ∷ ops)) (place_of op) (written ++ own) (omega arith, links_whole (place_of op) xs (op ∷ ops) written last own h w)
 
 -- one more operator leaves a chain in its place
-place_of_more : (xs ys : List Node) (ops more : List Operator) → 0 < length ops → place_of_chain (record { operands = ys; operators = ops ++ more }) ≡ place_of_chain (record { operands = xs; operators = ops })
+pub place_of_more : (xs ys : List Node) (ops more : List Operator) → 0 < length ops → place_of_chain (record { operands = ys; operators = ops ++ more }) ≡ place_of_chain (record { operands = xs; operators = ops })
 place_of_more xs ys [] more some = absurd (omega arith)
 place_of_more xs ys (op ∷ ops) more some = refl
 
@@ -116,7 +116,7 @@ new_chain : (op : Operator) (operand : Node) (chains : List OpenChain) (outer ow
 new_chain op operand chains outer own written e h looser w = (outer, own ++ tokens.Operator op ∷ [], sym (outer_first outer own (tokens.Operator op ∷ []) written e), omega arith, (own, [], refl, w, refl, refl), looser, h)
 
 -- one more makes some
-has_more : (ops : List Operator) (op : Operator) → 0 < length (ops ++ op ∷ [])
+pub has_more : (ops : List Operator) (op : Operator) → 0 < length (ops ++ op ∷ [])
 has_more [] op = omega arith
 has_more (o ∷ ops) op = omega arith
 

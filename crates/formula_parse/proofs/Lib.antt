@@ -1,5 +1,6 @@
 -- Lemmas of this crate.
 pub mod ChainLinks
+pub mod ChainTaken
 pub mod LexingLaws
 pub mod Machine
 pub mod MachineLaws

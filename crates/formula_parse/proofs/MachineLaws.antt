@@ -1,7 +1,9 @@
 -- The reader's turns read exactly what the grammar writes.
 use Rattle.std.specs.Prelude.{◌≡◌, ◌⊎◌, ℕ, suc, Bool, true, false, List, [], ◌∷◌, length, replicate, Option, Some, None, IsSome}
+use Rattle.std.proofs.Common.{ap, arith}
 use Rattle.std.specs.List.{count_by}
 use Rattle.formula_parse.specs.declared.nodes.Node.{Node}
+use Rattle.formula_parse.specs.declared.reader.Opened.TheVariants as opened
 use Rattle.formula_parse.specs.declared.reader.Phase.TheVariants as phases
 use Rattle.formula_parse.specs.declared.tokens.Token.{Token}
 use Rattle.formula_parse.specs.declared.tokens.Token.TheVariants as tokens
@@ -9,6 +11,7 @@ use Rattle.formula_parse.specs.Faults.{open_behind}
 use Rattle.formula_parse.specs.Grammar.{IsWritten}
 use Rattle.formula_parse.specs.Reading.{Turn, turn_at, awaits_operand, calls_open}
 use Rattle.formula_parse.proofs.Machine.{first_turn, ran, ended_behind, is_operand}
+use Rattle.formula_parse.proofs.ChainTaken.{tree_taken}
 use Rattle.formula_parse.proofs.TurnCloses.{turn_ends}
 use Rattle.formula_parse.proofs.TurnOpens.{operand_is_awaited, run_opens, opens_counted}
 use Rattle.formula_parse.proofs.TurnRuns.{of_some}
@@ -20,7 +23,9 @@ what_is_read_is_written written turn tree h e = of_some (λ t. IsWritten t 0 wri
 
 -- what the grammar writes, the turns read
 pub what_is_written_is_read : (written : List Token) (tree : Node) → IsWritten tree 0 written → (turn : Turn) × (ran first_turn written ≡ Some turn) × (ended_behind turn ≡ Some tree)
-what_is_written_is_read written tree w = ?
+what_is_written_is_read written tree w =
+    let taken = (tree_taken tree).placed 0 written (omega arith) w (record { opened = opened.Formula; minuses = 0; calls = 0; chains = [] }) [] [] tt in
+    ((phases.After taken.operand, (record { opened = opened.Formula; minuses = 0; calls = 0; chains = taken.left }) ∷ []), taken.runs, ap Some taken.ends)
 
 -- an operand can stand wherever one is awaited
 pub operands_are_taken : (turn : Turn) (token : Token) → awaits_operand turn.0 ≡ true → is_operand token ≡ true → IsSome (turn_at turn.0 turn.1 token)
