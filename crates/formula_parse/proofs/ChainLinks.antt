@@ -1,9 +1,9 @@
 -- Open chains stand for the tokens that were read for them.
-use Rattle.std.proofs.Common.{◌≡◌, ◌⊎◌, inl, inr, ℕ, zero, suc, ◌+◌, ◌<◌, ◌≤◌, Bool, true, false, List, [], ◌∷◌, ◌++◌, map, length, refl, sym, ap, ◌∙◌, subst, arith, le_trans, ltb-true, eqb-true}
+use Rattle.std.proofs.Common.{◌≡◌, ℕ, suc, ◌<◌, Bool, true, false, List, [], ◌∷◌, ◌++◌, map, length, refl, sym, ap, ◌∙◌, subst, arith, ltb-true, eqb-true}
 use Rattle.std.specs.Prelude.{◌==◌, nat_lt, if◌then◌else◌}
 use Rattle.std.proofs.lemmas.Bool.{ltb-false}
 use Rattle.std.proofs.lemmas.Bool.Decides.{nat_tests}
-use Rattle.std.proofs.lemmas.List.{append_assoc, append-nil}
+use Rattle.std.proofs.lemmas.List.{append_assoc}
 use Rattle.formula_parse.specs.declared.nodes.Node.{Node}
 use Rattle.formula_parse.specs.declared.nodes.Node.TheVariants as nodes
 use Rattle.formula_parse.specs.declared.operators.Operator.{Operator}
@@ -87,7 +87,7 @@ finished_written (chain ∷ chains) operand tight written own h looser w =
     let last = written_below operand (suc (place_of_chain chain)) tight own (omega arith) w in
     let whole = closed_written chain.operands chain.operators operand h.1 own h.3 h.4 last in
     subst (IsWritten (finished (closed chain operand) chains) 0) (outer_first h.0 h.1 own written h.2)
-      (finished_written chains (closed chain operand) (place_of_chain chain) h.0 (h.1 ++ own) h.6 h.5 whole)
+    (finished_written chains (closed chain operand) (place_of_chain chain) h.0 (h.1 ++ own) h.6 h.5 whole)
 
 -- an operand and the chains round it, none of which is tighter than a place
 abbrev IsBound : ℕ → Node × List OpenChain → List Token → Type 0
@@ -108,7 +108,7 @@ bound_written place (chain ∷ chains) operand tight written own within h looser
     let last = written_below operand (suc (place_of_chain chain)) tight own (omega arith) w in
     let whole = closed_written chain.operands chain.operators operand h.1 own h.3 h.4 last in
     subst (IsBound place (bound place (closed chain operand) chains)) (outer_first h.0 h.1 own written h.2)
-      (bound_written place chains (closed chain operand) (place_of_chain chain) h.0 (h.1 ++ own) low h.6 h.5 whole))
+    (bound_written place chains (closed chain operand) (place_of_chain chain) h.0 (h.1 ++ own) low h.6 h.5 whole))
 
 -- ---- an operator behind an operand
 -- a new chain, of one operand and operator
@@ -130,13 +130,15 @@ chained_where true op operand chain chains outer own written e both h low w =
     let same : place_of_chain chain ≡ place_of op = eqb-true (place_of_chain chain) (place_of op) e in
     let stays : place_of_chain (record { operands = chain.operands ++ operand ∷ []; operators = chain.operators ++ op ∷ [] }) ≡ place_of_chain chain = place_of_more chain.operands (chain.operands ++ operand ∷ []) chain.operators (op ∷ []) h.3 in
     let last = subst (λ p. IsWritten operand (suc p) own) (sym same) w in
-    let links = links_more (place_of_chain chain) chain.operands chain.operators h.1 operand op own h.4 last (sym same) in
-    (h.0, h.1 ++ (own ++ tokens.Operator op ∷ []),
+    let links = links_more (place_of_chain chain) chain.operands chain.operators h.1 operand op own h.4 last (sym same) in (
+      h.0,
+      h.1 ++ (own ++ tokens.Operator op ∷ []),
       sym (outer_first outer own (tokens.Operator op ∷ []) written both) ∙ sym (outer_first h.0 h.1 (own ++ tokens.Operator op ∷ []) outer h.2),
       has_more chain.operators op,
       subst (λ p. AreLinks p (chain.operands ++ operand ∷ []) (chain.operators ++ op ∷ []) (h.1 ++ (own ++ tokens.Operator op ∷ []))) (sym stays) links,
       subst (λ p. IsLooser p chains) (sym stays) h.5,
-      h.6)
+      h.6,
+    )
 chained_where false op operand chain chains outer own written e both h low w = new_chain op operand (chain ∷ chains) outer own written both h (below_other (place_of_chain chain) (place_of op) low e) w
 
 -- an operand and the operator behind it

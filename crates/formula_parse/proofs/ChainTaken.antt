@@ -1,6 +1,6 @@
 -- A tree is taken wherever it is written.
-use Rattle.std.proofs.Common.{◌≡◌, ◌⊎◌, inl, inr, ℕ, zero, suc, ◌+◌, ◌<◌, ◌≤◌, Bool, true, false, List, [], ◌∷◌, ◌++◌, map, length, Option, Some, None, option_and_then, refl, sym, ap, ◌∙◌, subst, arith, All, le_trans, lt-ltb}
-use Rattle.std.specs.Prelude.{◌==◌, nat_lt, if◌then◌else◌}
+use Rattle.std.proofs.Common.{◌≡◌, ℕ, suc, ◌<◌, ◌≤◌, true, false, List, [], ◌∷◌, ◌++◌, map, length, Some, refl, sym, ap, ◌∙◌, subst, arith, All, lt-ltb}
+use Rattle.std.specs.Prelude.{◌==◌, nat_lt}
 use Rattle.std.proofs.lemmas.Bool.{cond-true, cond-false, le-ltb}
 use Rattle.std.proofs.lemmas.Bool.Decides.{nat_tests}
 use Rattle.std.proofs.lemmas.List.{append_assoc, append-nil}
@@ -10,18 +10,17 @@ use Rattle.formula_parse.specs.declared.nodes.Node.TheVariants as nodes
 use Rattle.formula_parse.specs.declared.operators.Operator.{Operator}
 use Rattle.formula_parse.specs.declared.reader.Frame.{Frame}
 use Rattle.formula_parse.specs.declared.reader.OpenChain.{OpenChain}
-use Rattle.formula_parse.specs.declared.reader.Phase.{Phase}
 use Rattle.formula_parse.specs.declared.reader.Phase.TheVariants as phases
 use Rattle.formula_parse.specs.declared.tokens.Token.{Token}
 use Rattle.formula_parse.specs.declared.tokens.Token.TheVariants as tokens
 use Rattle.formula_parse.specs.Grammar.{place_of, IsSigned, IsEnclosed, AreArguments, IsChain, IsChainAt, IsWritten}
-use Rattle.formula_parse.specs.Reading.{Turn, place_of_chain, closed, bound, finished, chained, joined, negated}
+use Rattle.formula_parse.specs.Reading.{place_of_chain, closed, bound, finished, chained, joined}
 use Rattle.formula_parse.proofs.Machine.{ran}
 use Rattle.formula_parse.proofs.NodeLaws.{node_induction, number_is_written, text_is_written, error_is_written, boolean_is_written, reference_is_written, area_is_written, call_is_written, parentheses_is_written, negation_is_written, chain_is_written}
 use Rattle.formula_parse.proofs.ChainLinks.{IsLooser, place_of_more, has_more}
 use Rattle.formula_parse.proofs.TurnGrammar.{written_to, place_is_low, negated_some, no_chain_alone}
 use Rattle.formula_parse.proofs.TurnRuns.{ran_behind}
-use Rattle.formula_parse.proofs.TurnTaken.{with_chains, IsTaken, IsTakenAt, IsTakenAlone, AreTaken, signed_run, operand_taken, token_taken, parentheses_run, call_run}
+use Rattle.formula_parse.proofs.TurnTaken.{with_chains, IsTaken, IsTakenAt, AreTaken, signed_run, operand_taken, token_taken, parentheses_run, call_run}
 
 -- ---- an operator behind an operand
 -- a number is itself
@@ -90,8 +89,8 @@ chain_taken [] y xs done [] place frame frames chains written each low some is w
     let taken = All-head AreTaken y [] each in
     let last = taken.placed (suc (place_of_chain chain)) written (omega arith) own frame frames (chain ∷ chains) (omega arith) in
     taken_behind frame frames (chain ∷ chains) (chain ∷ chains) written written place (place_of_chain chain) (closed chain y) (nodes.Chain (xs ++ y ∷ []) (done ++ [])) chains refl (omega arith)
-      (ap (nodes.Chain (xs ++ y ∷ [])) (sym (append-nil done)))
-      (last_taken frame frames chain chains written y last)
+    (ap (nodes.Chain (xs ++ y ∷ [])) (sym (append-nil done)))
+    (last_taken frame frames chain chains written y last)
 chain_taken [] y xs done (op ∷ ops) place frame frames chains written each low some is w = absurd w
 chain_taken (z ∷ zs) y xs done [] place frame frames chains written each low some is w = absurd w
 chain_taken (z ∷ zs) y xs done (op ∷ ops) place frame frames chains written each low some is w =
@@ -106,8 +105,8 @@ chain_taken (z ∷ zs) y xs done (op ∷ ops) place frame frames chains written 
     let stays = place_of_more xs (xs ++ y ∷ []) done (op ∷ []) some ∙ is in
     let rest = chain_taken zs z (xs ++ y ∷ []) (done ++ op ∷ []) ops place frame frames chains w.1 (All-tail AreTaken y (z ∷ zs) each) low (has_more done op) stays w.5 in
     taken_behind frame frames (chain ∷ chains) (more ∷ chains) written w.1 place place (nodes.Chain ((xs ++ y ∷ []) ++ z ∷ zs) ((done ++ op ∷ []) ++ ops)) (nodes.Chain (xs ++ y ∷ z ∷ zs) (done ++ op ∷ ops)) chains run (omega arith)
-      (ap (λ operands. nodes.Chain operands ((done ++ op ∷ []) ++ ops)) (append_assoc xs (y ∷ []) (z ∷ zs)) ∙ ap (nodes.Chain (xs ++ y ∷ z ∷ zs)) (append_assoc done (op ∷ []) ops))
-      rest
+    (ap (λ operands. nodes.Chain operands ((done ++ op ∷ []) ++ ops)) (append_assoc xs (y ∷ []) (z ∷ zs)) ∙ ap (nodes.Chain (xs ++ y ∷ z ∷ zs)) (append_assoc done (op ∷ []) ops))
+    rest
 
 -- a whole chain
 whole_chain_taken : (operands : List Node) (ops : List Operator) (place : ℕ) (written : List Token) → All AreTaken operands → IsChainAt place (map IsWritten operands) ops written → IsTakenAt (nodes.Chain operands ops) place written
@@ -159,8 +158,8 @@ tree_taken = node_induction AreTaken
     (λ r. token_taken (nodes.Reference r) (tokens.Reference r) (λ place written w. written_to (reference_is_written r) place written w) (λ minuses frames. refl))
     (λ a b. token_taken (nodes.Area a b) (tokens.Area a b) (λ place written w. written_to (area_is_written a b) place written w) (λ minuses frames. refl))
     (λ name arguments each. operand_taken (nodes.Call name arguments) (λ own. (length arguments ≤ 255) × IsEnclosed (tokens.Call name) (AreArguments (map IsWritten arguments)) own)
-      (λ place written w. few_signed place (length arguments ≤ 255) (IsEnclosed (tokens.Call name) (AreArguments (map IsWritten arguments))) written (written_to (call_is_written name arguments) place written w))
-      (λ own w. call_run name arguments own each w))
+    (λ place written w. few_signed place (length arguments ≤ 255) (IsEnclosed (tokens.Call name) (AreArguments (map IsWritten arguments))) written (written_to (call_is_written name arguments) place written w))
+    (λ own w. call_run name arguments own each w))
     (λ inner taken. operand_taken (nodes.Parentheses inner) (IsEnclosed tokens.Open (IsWritten inner 0)) (λ place written w. written_to (parentheses_is_written inner) place written w) (λ own w. parentheses_run inner own taken w))
     (λ count operand taken. record {
       alone = λ written w. absurd (omega (arith, (written_to (negation_is_written count operand) 5 written w).0));

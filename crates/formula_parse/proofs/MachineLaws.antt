@@ -1,5 +1,5 @@
 -- The reader's turns read exactly what the grammar writes.
-use Rattle.std.specs.Prelude.{◌≡◌, ◌⊎◌, ℕ, suc, Bool, true, false, List, [], ◌∷◌, length, replicate, Option, Some, None, IsSome}
+use Rattle.std.specs.Prelude.{◌≡◌, ◌⊎◌, ℕ, suc, true, false, List, [], ◌∷◌, length, replicate, Some, IsSome}
 use Rattle.std.proofs.Common.{ap, arith}
 use Rattle.std.specs.List.{count_by}
 use Rattle.formula_parse.specs.declared.nodes.Node.{Node}

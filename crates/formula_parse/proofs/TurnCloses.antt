@@ -1,5 +1,5 @@
 -- Closing all that is open ends a formula.
-use Rattle.std.proofs.Common.{◌≡◌, ◌⊎◌, inl, inr, ℕ, suc, false, List, [], ◌∷◌, ◌++◌, replicate, Option, Some, None, IsSome, refl, sym, ap, ◌∙◌, subst}
+use Rattle.std.proofs.Common.{◌≡◌, ◌⊎◌, inl, inr, ℕ, suc, false, List, [], ◌∷◌, ◌++◌, replicate, Some, IsSome, refl, sym, subst}
 use Rattle.formula_parse.specs.declared.nodes.Node.{Node}
 use Rattle.formula_parse.specs.declared.nodes.Node.TheVariants as nodes
 use Rattle.formula_parse.specs.declared.reader.Frame.{Frame}
@@ -10,9 +10,9 @@ use Rattle.formula_parse.specs.declared.reader.Phase.{Phase}
 use Rattle.formula_parse.specs.declared.reader.Phase.TheVariants as phases
 use Rattle.formula_parse.specs.declared.tokens.Token.{Token}
 use Rattle.formula_parse.specs.declared.tokens.Token.TheVariants as tokens
-use Rattle.formula_parse.specs.Reading.{Turn, negated, finished, whole, awaits_operand}
+use Rattle.formula_parse.specs.Reading.{Turn, negated, finished, awaits_operand}
 use Rattle.formula_parse.proofs.Machine.{ran, ended_behind}
-use Rattle.formula_parse.proofs.TurnStands.{Stands, IsOpened, IsInside, IsBegun}
+use Rattle.formula_parse.proofs.TurnStands.{Stands, IsOpened, IsBegun}
 
 -- the whole formula is open outside all else, and nowhere else
 abbrev IsClosable : Opened → List Frame → Type 0 → Type 0

@@ -1,23 +1,23 @@
 -- What is written at a tight place is written at a looser one; signs in front of an operand.
-use Rattle.std.proofs.Common.{◌≡◌, ◌⊎◌, inl, inr, ℕ, zero, suc, ◌+◌, ◌<◌, ◌≤◌, List, [], ◌∷◌, ◌++◌, map, length, refl, sym, ap, ◌∙◌, subst, arith, le_trans, false}
+use Rattle.std.proofs.Common.{◌≡◌, ◌⊎◌, inl, inr, ℕ, zero, suc, ◌<◌, ◌≤◌, List, [], ◌∷◌, ◌++◌, refl, sym, ap, ◌∙◌, subst, arith, le_trans, false}
 use Rattle.std.specs.Prelude.{◌==◌}
 use Rattle.std.proofs.lemmas.Bool.{cond-false}
 use Rattle.std.proofs.lemmas.Bool.Decides.{nat_tests}
-use Rattle.std.proofs.lemmas.List.{append_assoc, append-nil}
 use Rattle.formula_parse.specs.declared.nodes.Node.{Node}
 use Rattle.formula_parse.specs.declared.nodes.Node.TheVariants as nodes
 use Rattle.formula_parse.specs.declared.operators.Operator.{Operator}
 use Rattle.formula_parse.specs.declared.operators.Operator.TheVariants as operators
 use Rattle.formula_parse.specs.declared.tokens.Token.{Token}
 use Rattle.formula_parse.specs.declared.tokens.Token.TheVariants as tokens
-use Rattle.formula_parse.specs.Grammar.{place_of, Written, AreSigns, IsSigned, IsChain, IsChainAt, IsWritten}
+use Rattle.formula_parse.specs.Grammar.{place_of, Written, AreSigns, IsSigned, IsChainAt, IsWritten}
 use Rattle.formula_parse.specs.Reading.{negated}
 use Rattle.formula_parse.proofs.NodeLaws.{node_induction, number_is_written, text_is_written, error_is_written, boolean_is_written, reference_is_written, area_is_written, call_is_written, parentheses_is_written, negation_is_written, chain_is_written}
 
--- both ways of an equation between what two trees are written with
+-- from what a tree is written with to the grammar's words for it
 pub written_to : {X Y : Written} (e : X ≡ Y) (place : ℕ) (written : List Token) → X place written → Y place written
 written_to e place written w = subst (λ (W : Written). W place written) e w
 
+-- from the grammar's words for it to what a tree is written with
 pub written_from : {X Y : Written} (e : X ≡ Y) (place : ℕ) (written : List Token) → Y place written → X place written
 written_from e place written w = subst (λ (W : Written). W place written) (sym e) w
 
@@ -145,12 +145,15 @@ pub written_signed : (count : ℕ) (tree : Node) (signs written : List Token) �
 written_signed zero tree signs written s w = written_unsigned tree signs written s w
 written_signed (suc count) tree signs written s w =
     subst (λ node. IsWritten node 4 (signs ++ written)) (sym (negated_some (suc count) tree (omega arith)))
-      (written_from (negation_is_written (suc count) tree) 4 (signs ++ written)
-        (omega arith, omega arith, record {
-          signs = signs;
-          operand = written;
-          both = refl;
-          room = inl (omega arith);
-          counted = s;
-          own = w;
-        }))
+    (written_from (negation_is_written (suc count) tree) 4 (signs ++ written) (
+      omega arith,
+      omega arith,
+      record {
+        signs = signs;
+        operand = written;
+        both = refl;
+        room = inl (omega arith);
+        counted = s;
+        own = w;
+      },
+    ))

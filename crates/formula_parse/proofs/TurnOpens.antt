@@ -1,5 +1,5 @@
 -- The frames are what the tokens left open; an operand is taken wherever one is awaited.
-use Rattle.std.proofs.Common.{◌≡◌, ◌⊎◌, ℕ, suc, ◌+◌, Bool, true, false, cond, List, [], ◌∷◌, ◌++◌, length, drop, Option, Some, None, IsSome, option_map, if◌then◌else◌, refl, sym, ap, ◌∙◌, subst, arith, nat_lt}
+use Rattle.std.proofs.Common.{◌≡◌, ℕ, suc, ◌+◌, Bool, true, false, cond, List, [], ◌∷◌, ◌++◌, length, drop, Some, None, IsSome, option_map, if◌then◌else◌, refl, sym, ap, subst, arith, nat_lt}
 use Rattle.std.specs.List.{count_by}
 use Rattle.std.proofs.lemmas.List.Sums.{sum_by-cons}
 use Rattle.cell_values.specs.declared.names.Name.{Name}
@@ -15,7 +15,7 @@ use Rattle.formula_parse.specs.declared.reader.Phase.TheVariants as phases
 use Rattle.formula_parse.specs.declared.tokens.Token.{Token}
 use Rattle.formula_parse.specs.declared.tokens.Token.TheVariants as tokens
 use Rattle.formula_parse.specs.Faults.{open_behind}
-use Rattle.formula_parse.specs.Reading.{Turn, turn_at, operand_turn, start_turn, after_turn, operator_turn, close_turn, comma_turn, empty_call, after_operand, closing, with_argument, finished, calls_open, awaits_operand, with_frame}
+use Rattle.formula_parse.specs.Reading.{Turn, turn_at, operand_turn, start_turn, after_turn, empty_call, after_operand, closing, with_argument, finished, calls_open, awaits_operand, with_frame}
 use Rattle.formula_parse.proofs.Machine.{first_turn, ran, is_operand}
 use Rattle.formula_parse.proofs.TurnRuns.{Of, kept_by_run}
 
@@ -134,8 +134,8 @@ turn_opens (phases.After operand) frames left token h = after_opens operand fram
 pub run_opens : (written : List Token) (turn : Turn) → ran first_turn written ≡ Some turn → OpensBehind turn written
 run_opens written turn e =
     kept_by_run OpensBehind
-      (λ turn front token h. subst (λ left. Of (λ (next : Turn). Opens next.1 left) (turn_at turn.0 turn.1 token)) (sym (open_behind_one [] front token)) (turn_opens turn.0 turn.1 (open_behind [] front) token h))
-      first_turn turn written (refl, refl, refl) e
+    (λ turn front token h. subst (λ left. Of (λ (next : Turn). Opens next.1 left) (turn_at turn.0 turn.1 token)) (sym (open_behind_one [] front token)) (turn_opens turn.0 turn.1 (open_behind [] front) token h))
+    first_turn turn written (refl, refl, refl) e
 
 -- ---- how much is open
 -- one more call or parenthesis is counted

@@ -1,5 +1,5 @@
 -- What each turn keeps, the turns over a list keep.
-use Rattle.std.proofs.Common.{◌≡◌, List, [], ◌∷◌, ◌++◌, Option, Some, None, option_and_then, refl, sym, ap, ◌∙◌, subst}
+use Rattle.std.proofs.Common.{◌≡◌, List, [], ◌∷◌, ◌++◌, Option, Some, None, option_and_then, sym, ap, ◌∙◌, subst}
 use Rattle.std.proofs.lemmas.List.{append_assoc, append-nil}
 use Rattle.formula_parse.specs.declared.tokens.Token.{Token}
 use Rattle.formula_parse.specs.Reading.{Turn, turn_at}
@@ -24,17 +24,21 @@ Kept P = (turn : Turn) (front : List Token) (token : Token) → P turn front →
 
 -- what each turn keeps, the turns over a list keep
 module _ (P : Turn → List Token → Type 0) (kept : Kept P) where
+  -- the turns over these tokens keep it
   abbrev Keeps : List Token → Type 0
   Keeps back = (turn : Turn) (front : List Token) → P turn front → Of (λ last. P last (front ++ back)) (ran turn back)
 
+  -- a turn and those over the tokens behind it
   keeps_on : (back : List Token) → Keeps back → (token : Token) (front : List Token) (o : Option Turn) → Of (λ next. P next (front ++ token ∷ [])) o → Of (λ last. P last (front ++ token ∷ back)) (option_and_then (λ next. ran next back) o)
   keeps_on back keeps token front None h = tt
   keeps_on back keeps token front (Some next) h = subst (λ read. Of (λ last. P last read) (ran next back)) (behind_one front token back) (keeps next (front ++ token ∷ []) h)
 
+  -- the turns over any tokens
   keeps_all : (back : List Token) → Keeps back
   keeps_all [] turn front h = subst (P turn) (sym (append-nil front)) h
   keeps_all (token ∷ back) turn front h = keeps_on back (keeps_all back) token front (turn_at turn.0 turn.1 token) (kept turn front token h)
 
+  -- what holds of the first turn and of no tokens, holds of the last turn and of all
   pub kept_by_run : (first last : Turn) (written : List Token) → P first [] → ran first written ≡ Some last → P last written
   kept_by_run first last written h e = of_some (λ turn. P turn written) (ran first written) last e (keeps_all written first [] h)
 
@@ -50,7 +54,3 @@ ran_behind turn next (token ∷ front) back e = ran_behind_turn (turn_at turn.0 
 -- the turns over one list and then another come to an end
 pub ran_through : (turn next last : Turn) (front back : List Token) → ran turn front ≡ Some next → ran next back ≡ Some last → ran turn (front ++ back) ≡ Some last
 ran_through turn next last front back e f = ran_behind turn next front back e ∙ f
-
--- the turns over a token and a list behind it
-pub ran_on : (turn next : Turn) (token : Token) (back : List Token) → turn_at turn.0 turn.1 token ≡ Some next → ran turn (token ∷ back) ≡ ran next back
-ran_on turn next token back e = ap (λ (o : Option Turn). option_and_then (λ t. ran t back) o) e

@@ -1,5 +1,5 @@
 -- A turn stands for the tokens up to it, and each turn keeps that.
-use Rattle.std.proofs.Common.{◌≡◌, ◌⊎◌, inl, inr, ℕ, zero, suc, ◌+◌, ◌<◌, ◌≤◌, Bool, true, false, List, [], ◌∷◌, ◌++◌, map, length, Option, Some, None, option_map, refl, sym, ap, ◌∙◌, subst, arith, ltb-true}
+use Rattle.std.proofs.Common.{◌≡◌, inr, ℕ, suc, ◌<◌, ◌≤◌, Bool, true, false, List, [], ◌∷◌, ◌++◌, map, length, Some, None, option_map, refl, sym, ap, ◌∙◌, subst, arith, ltb-true}
 use Rattle.std.specs.Prelude.{nat_lt, if◌then◌else◌}
 use Rattle.std.proofs.lemmas.List.{append_assoc, append-nil, length-append}
 use Rattle.cell_values.specs.declared.names.Name.{Name}
@@ -16,12 +16,12 @@ use Rattle.formula_parse.specs.declared.reader.Phase.TheVariants as phases
 use Rattle.formula_parse.specs.declared.tokens.Token.{Token}
 use Rattle.formula_parse.specs.declared.tokens.Token.TheVariants as tokens
 use Rattle.formula_parse.specs.Grammar.{place_of, Written, AreSigns, IsSigned, IsOne, AreArguments, IsWritten}
-use Rattle.formula_parse.specs.Reading.{Turn, turn_at, operand_turn, start_turn, after_turn, operator_turn, empty_call, after_operand, closing, with_argument, with_frame, negated, bound, joined, finished, calls_open, ended}
-use Rattle.formula_parse.proofs.Machine.{first_turn, ran, ended_behind}
+use Rattle.formula_parse.specs.Reading.{Turn, turn_at, operand_turn, start_turn, after_turn, empty_call, after_operand, closing, with_argument, with_frame, negated, bound, joined, finished, ended}
+use Rattle.formula_parse.proofs.Machine.{first_turn, ran}
 use Rattle.formula_parse.proofs.NodeLaws.{number_is_written, text_is_written, error_is_written, boolean_is_written, reference_is_written, area_is_written, call_is_written, parentheses_is_written}
-use Rattle.formula_parse.proofs.ChainLinks.{AreChains, IsLooser, bound_written, chained_written, finished_written, chains_are_low}
+use Rattle.formula_parse.proofs.ChainLinks.{AreChains, bound_written, chained_written, finished_written, chains_are_low}
 use Rattle.formula_parse.proofs.TurnGrammar.{place_is_low, written_from, written_signed, signs_with_plus, signs_with_minus}
-use Rattle.formula_parse.proofs.TurnRuns.{Of, of_some, kept_by_run}
+use Rattle.formula_parse.proofs.TurnRuns.{Of, kept_by_run}
 
 -- ---- what a turn stands for
 -- a call without arguments as yet
@@ -75,17 +75,25 @@ start_stands_as_signs (frame ∷ frames) written h = (h.0, h.1, h.2, h.3, begun_
 operand_behind_signs : (minuses : ℕ) (frames : List Frame) (written : List Token) (operand : Node) (own : List Token) → Stands (phases.Signs minuses) frames written → IsWritten operand 5 own → Stands (phases.After (negated minuses operand)) frames (written ++ own)
 operand_behind_signs minuses [] written operand own h w = h
 operand_behind_signs minuses (frame ∷ frames) written operand own h w =
-    let i = h.4 in
-    (h.0, h.1 ++ own, more_behind h.0 h.1 own written h.2, h.3,
-      (i.0, i.1 ++ own, more_behind i.0 i.1 own h.1 i.2, i.3, written_signed minuses operand i.1 own i.4 w))
+    let i = h.4 in (
+      h.0,
+      h.1 ++ own,
+      more_behind h.0 h.1 own written h.2,
+      h.3,
+      (i.0, i.1 ++ own, more_behind i.0 i.1 own h.1 i.2, i.3, written_signed minuses operand i.1 own i.4 w),
+    )
 
 -- one more sign behind signs
 sign_behind_signs : (minuses more : ℕ) (sign : Token) (frames : List Frame) (written : List Token) → ((signs : List Token) → AreSigns minuses signs → AreSigns more (signs ++ sign ∷ [])) → Stands (phases.Signs minuses) frames written → Stands (phases.Signs more) frames (written ++ sign ∷ [])
 sign_behind_signs minuses more sign [] written counted h = h
 sign_behind_signs minuses more sign (frame ∷ frames) written counted h =
-    let i = h.4 in
-    (h.0, h.1 ++ sign ∷ [], more_behind h.0 h.1 (sign ∷ []) written h.2, h.3,
-      (i.0, i.1 ++ sign ∷ [], more_behind i.0 i.1 (sign ∷ []) h.1 i.2, i.3, counted i.1 i.4))
+    let i = h.4 in (
+      h.0,
+      h.1 ++ sign ∷ [],
+      more_behind h.0 h.1 (sign ∷ []) written h.2,
+      h.3,
+      (i.0, i.1 ++ sign ∷ [], more_behind i.0 i.1 (sign ∷ []) h.1 i.2, i.3, counted i.1 i.4),
+    )
 
 -- an operand of tokens alone
 alone : (Operand : List Token → Type 0) (own : List Token) → Operand own → IsSigned 5 0 Operand own
@@ -120,6 +128,7 @@ done_whole (x ∷ xs) last done own h w = argument_more (IsWritten x) (map IsWri
     some_arguments : (xs : List Node) (last : Node) → 0 < length (map IsWritten (xs ++ last ∷ []))
     some_arguments [] last = omega arith
     some_arguments (x ∷ xs) last = omega arith
+
     argument_more : (X : Written) (Xs : List Written) (argument rest inner : List Token) → inner ≡ argument ++ tokens.Comma ∷ rest → X 0 argument → 0 < length Xs → AreArguments Xs rest → AreArguments (X ∷ Xs) inner
     argument_more X [] argument rest inner e w some h = absurd (omega arith)
     argument_more X (Y ∷ Xs) argument rest inner e w some h = (argument, rest, e, w, h)
@@ -129,16 +138,16 @@ call_behind_signs : (minuses : ℕ) (frames : List Frame) (name : Name) (argumen
 call_behind_signs minuses frames name arguments before inner written e few w h =
     let own = tokens.Call name ∷ (inner ++ tokens.Close ∷ []) in
     subst (Stands (phases.After (negated minuses (nodes.Call name arguments))) frames) (sym e)
-      (operand_behind_signs minuses frames before (nodes.Call name arguments) own h
-        (written_from (call_is_written name arguments) 5 own (few, alone _ own (inner, refl, w))))
+    (operand_behind_signs minuses frames before (nodes.Call name arguments) own h
+    (written_from (call_is_written name arguments) 5 own (few, alone _ own (inner, refl, w))))
 
 -- whole parentheses behind signs
 parentheses_behind_signs : (minuses : ℕ) (frames : List Frame) (last : Node) (before inner written : List Token) → written ≡ before ++ tokens.Open ∷ (inner ++ tokens.Close ∷ []) → IsWritten last 0 inner → Stands (phases.Signs minuses) frames before → Stands (phases.After (negated minuses (nodes.Parentheses last))) frames written
 parentheses_behind_signs minuses frames last before inner written e w h =
     let own = tokens.Open ∷ (inner ++ tokens.Close ∷ []) in
     subst (Stands (phases.After (negated minuses (nodes.Parentheses last))) frames) (sym e)
-      (operand_behind_signs minuses frames before (nodes.Parentheses last) own h
-        (written_from (parentheses_is_written last) 5 own (alone _ own (inner, refl, w))))
+    (operand_behind_signs minuses frames before (nodes.Parentheses last) own h
+    (written_from (parentheses_is_written last) 5 own (alone _ own (inner, refl, w))))
 
 -- the tokens of an opening token, of what is done in it, of its last part and one more
 enclosed_tokens : (before done inner front written : List Token) (opening closing : Token) → written ≡ front ++ inner → front ≡ before ++ opening ∷ done → written ++ closing ∷ [] ≡ before ++ opening ∷ ((done ++ inner) ++ closing ∷ [])
@@ -181,10 +190,13 @@ comma_stands (opened.Call name arguments) minuses calls frames last front inner 
     comma_stands_where false r = tt
     comma_stands_where true r =
         let few = ltb-true (length arguments) 254 r in
-        let more = length-append arguments (last ∷ []) in
-        (written ++ tokens.Comma ∷ [], [], sym (append-nil (written ++ tokens.Comma ∷ [])),
+        let more = length-append arguments (last ∷ []) in (
+          written ++ tokens.Comma ∷ [],
+          [],
+          sym (append-nil (written ++ tokens.Comma ∷ [])),
           (h.0, h.1 ++ inner ++ tokens.Comma ∷ [], enclosed_tokens h.0 h.1 inner front written (tokens.Call name) tokens.Comma e h.2, done_more arguments last h.1 inner h.3 w, omega arith, h.5),
-          ([], [], refl, refl, refl))
+          ([], [], refl, refl, refl),
+        )
 
 -- ---- a turn
 -- all chains of a frame closed round its last operand

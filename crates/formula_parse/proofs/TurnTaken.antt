@@ -1,9 +1,9 @@
 -- A tree that is an operand alone is taken behind any signs.
-use Rattle.std.proofs.Common.{◌≡◌, ◌⊎◌, inl, inr, ℕ, zero, suc, ◌+◌, ◌<◌, ◌≤◌, Bool, true, false, List, [], ◌∷◌, ◌++◌, map, length, Option, Some, None, option_and_then, option_map, refl, sym, ap, ◌∙◌, subst, arith, All, lt-ltb}
+use Rattle.std.proofs.Common.{◌≡◌, ℕ, suc, ◌+◌, ◌<◌, ◌≤◌, List, [], ◌∷◌, ◌++◌, map, length, Option, Some, None, option_and_then, option_map, refl, ap, ◌∙◌, arith, All, lt-ltb}
 use Rattle.std.specs.Prelude.{nat_lt, if◌then◌else◌}
 use Rattle.std.proofs.lemmas.Bool.{cond-true}
 use Rattle.std.proofs.lemmas.Option.{same_Some}
-use Rattle.std.proofs.lemmas.List.{append_assoc, append-nil, length-append}
+use Rattle.std.proofs.lemmas.List.{append_assoc, length-append}
 use Rattle.std.proofs.lemmas.List.Elements.{All-head, All-tail}
 use Rattle.cell_values.specs.declared.names.Name.{Name}
 use Rattle.formula_parse.specs.declared.nodes.Node.{Node}
@@ -14,7 +14,6 @@ use Rattle.formula_parse.specs.declared.reader.Frame.{Frame}
 use Rattle.formula_parse.specs.declared.reader.OpenChain.{OpenChain}
 use Rattle.formula_parse.specs.declared.reader.Opened.{Opened}
 use Rattle.formula_parse.specs.declared.reader.Opened.TheVariants as opened
-use Rattle.formula_parse.specs.declared.reader.Phase.{Phase}
 use Rattle.formula_parse.specs.declared.reader.Phase.TheVariants as phases
 use Rattle.formula_parse.specs.declared.tokens.Token.{Token}
 use Rattle.formula_parse.specs.declared.tokens.Token.TheVariants as tokens
@@ -22,7 +21,7 @@ use Rattle.formula_parse.specs.Grammar.{AreSigns, IsSigned, IsEnclosed, AreArgum
 use Rattle.formula_parse.specs.Reading.{Turn, operand_turn, with_frame, negated, bound, finished, calls_open}
 use Rattle.formula_parse.proofs.Machine.{ran}
 use Rattle.formula_parse.proofs.ChainLinks.{IsLooser}
-use Rattle.formula_parse.proofs.TurnGrammar.{no_signs, negated_some}
+use Rattle.formula_parse.proofs.TurnGrammar.{no_signs}
 use Rattle.formula_parse.proofs.TurnRuns.{ran_behind, ran_through}
 
 -- ---- what the turns make of a tree's tokens
@@ -126,7 +125,7 @@ room_is_left arguments last more name few = cond-true (nat_lt (length arguments)
 comma_run : (name : Name) (done : List Node) (minuses calls : ℕ) (frames : List Frame) (last x : Node) (rest : List Token) → (if nat_lt (length done) 254 then Some (opened.Call name (done ++ last ∷ [])) else None) ≡ Some (opened.Call name (done ++ last ∷ [])) → last ≡ x → option_and_then (λ (next : Turn). ran next rest) (option_map (λ more. (phases.Signs 0, with_frame more minuses calls frames)) (if nat_lt (length done) 254 then Some (opened.Call name (done ++ last ∷ [])) else None)) ≡ ran (phases.Signs 0, with_frame (opened.Call name (done ++ x ∷ [])) minuses calls frames) rest
 comma_run name done minuses calls frames last x rest room e =
     ap (λ (o : Option Opened). option_and_then (λ (next : Turn). ran next rest) (option_map (λ more. (phases.Signs 0, with_frame more minuses calls frames)) o)) room
-      ∙ ap (λ node. ran (phases.Signs 0, with_frame (opened.Call name (done ++ node ∷ [])) minuses calls frames) rest) e
+    ∙ ap (λ node. ran (phases.Signs 0, with_frame (opened.Call name (done ++ node ∷ [])) minuses calls frames) rest) e
 
 -- the arguments of a call behind those that are done, and its `)`
 arguments_run : (xs : List Node) (x : Node) (done : List Node) (name : Name) (minuses calls : ℕ) (frames : List Frame) (inner : List Token) → All AreTaken (x ∷ xs) → length done + length (x ∷ xs) ≤ 255 → AreArguments (map IsWritten (x ∷ xs)) inner → ran (phases.Signs 0, with_frame (opened.Call name done) minuses calls frames) (inner ++ tokens.Close ∷ []) ≡ Some (phases.After (negated minuses (nodes.Call name (done ++ x ∷ xs))), frames)
@@ -146,11 +145,11 @@ arguments_run (y ∷ ys) x done name minuses calls frames inner each few w =
     let step = comma_run name done minuses calls frames (finished one.operand one.left) x (w.1 ++ tokens.Close ∷ []) room one.ends in
     let whole = ap (λ arguments. Some (phases.After (negated minuses (nodes.Call name arguments)), frames)) (append_assoc done (x ∷ []) (y ∷ ys)) in
     ap (λ v. ran (phases.Signs 0, with_chains frame frames []) (v ++ tokens.Close ∷ [])) w.2
-      ∙ ap (ran (phases.Signs 0, with_chains frame frames [])) (append_assoc w.0 (tokens.Comma ∷ w.1) (tokens.Close ∷ []))
-      ∙ ran_behind (phases.Signs 0, with_chains frame frames []) (phases.After one.operand, with_chains frame frames one.left) w.0 (tokens.Comma ∷ (w.1 ++ tokens.Close ∷ [])) one.runs
-      ∙ step
-      ∙ rest
-      ∙ whole
+    ∙ ap (ran (phases.Signs 0, with_chains frame frames [])) (append_assoc w.0 (tokens.Comma ∷ w.1) (tokens.Close ∷ []))
+    ∙ ran_behind (phases.Signs 0, with_chains frame frames []) (phases.After one.operand, with_chains frame frames one.left) w.0 (tokens.Comma ∷ (w.1 ++ tokens.Close ∷ [])) one.runs
+    ∙ step
+    ∙ rest
+    ∙ whole
 
 -- a whole call behind signs
 pub call_run : (name : Name) (arguments : List Node) (own : List Token) → All AreTaken arguments → (length arguments ≤ 255) × IsEnclosed (tokens.Call name) (AreArguments (map IsWritten arguments)) own → IsTakenAlone (nodes.Call name arguments) own
