@@ -1,14 +1,23 @@
 -- Lemmas of this crate.
 pub mod Causes
+pub mod ChainLinks
+pub mod ChainTaken
 pub mod Completing
 pub mod Depths
 pub mod LexingLaws
 pub mod Machine
 pub mod MachineLaws
 pub mod Marks
+pub mod NodeLaws
 pub mod Outcomes
 pub mod ParseLaws
 pub mod Runs
 pub mod SyntaxPlaces
 pub mod TokenReads
+pub mod TurnCloses
+pub mod TurnGrammar
+pub mod TurnOpens
+pub mod TurnRuns
+pub mod TurnStands
+pub mod TurnTaken
 pub mod Uniqueness
