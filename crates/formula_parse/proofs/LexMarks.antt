@@ -106,17 +106,20 @@ greater_alone : (p : Bool) → p ≡ false → cond p (operators.Compare compare
 greater_alone true e = absurd (cc)
 greater_alone false e = refl
 
+abbrev as_found : Operator → Option (Token × ℕ)
+as_found op = Some (tokens.Operator op, operator_len op)
+
 -- the operator that is written is found
 pub operator_written : (op : Operator) (rest : List ℕ) → first_passes (goes_on (tokens.Operator op)) rest ≡ false → token_at (operator_text op ++ rest) ≡ Some (tokens.Operator op, length (operator_text op))
 unfolding token_at
 operator_written (operators.Compare compare.Eq) rest s = refl
-operator_written (operators.Compare compare.Ne) rest s = refl
+operator_written (operators.Compare compare.Ne) rest s = ap as_found (less_is 62 rest)
 operator_written (operators.Compare compare.Lt) [] s = refl
-operator_written (operators.Compare compare.Lt) (c ∷ cs) s = ap (λ (op : Operator). Some {T = Token × ℕ} (tokens.Operator op, operator_len op)) (less_is c cs ∙ less_alone (eqb c 61) (eqb c 62) s)
+operator_written (operators.Compare compare.Lt) (c ∷ cs) s = ap as_found (less_is c cs ∙ less_alone (eqb c 61) (eqb c 62) s)
 operator_written (operators.Compare compare.Gt) [] s = refl
-operator_written (operators.Compare compare.Gt) (c ∷ cs) s = ap (λ (op : Operator). Some {T = Token × ℕ} (tokens.Operator op, operator_len op)) (greater_is c cs ∙ greater_alone (eqb c 61) s)
-operator_written (operators.Compare compare.Le) rest s = refl
-operator_written (operators.Compare compare.Ge) rest s = refl
+operator_written (operators.Compare compare.Gt) (c ∷ cs) s = ap as_found (greater_is c cs ∙ greater_alone (eqb c 61) s)
+operator_written (operators.Compare compare.Le) rest s = ap as_found (less_is 61 rest)
+operator_written (operators.Compare compare.Ge) rest s = ap as_found (greater_is 61 rest)
 operator_written operators.Join rest s = refl
 operator_written operators.Add rest s = refl
 operator_written operators.Subtract rest s = refl

@@ -1,7 +1,10 @@
 -- Lemmas of this crate.
 pub mod LexFirst
+pub mod LexErrors
 pub mod LexMarks
 pub mod LexNumbers
+pub mod LexReferences
+pub mod LexTexts
 pub mod LexingLaws
 pub mod Machine
 pub mod MachineLaws
