@@ -1,5 +1,7 @@
 -- The token at the front of a text is the one that the grammar writes there.
-use Rattle.std.specs.Prelude.{◌≡◌, ℕ, suc, ◌<◌, ◌≤◌, Bool, true, false, List, [], ◌∷◌, ◌++◌, length, take, drop, Option, Some, None}
+use Rattle.std.proofs.Common.{◌≡◌, ℕ, suc, ◌<◌, ◌≤◌, Bool, true, false, List, [], ◌∷◌, ◌++◌, length, take, drop, Option, Some, None, refl, sym, ap, subst, ◌∙◌, arith}
+use Rattle.std.proofs.lemmas.List.{length-append, append_assoc, take-append-drop, drop-append-le, length-drop, length-take-le, take-take}
+use Rattle.std.proofs.Math.Seq.{take-append_seam, drop-append_seam}
 use Rattle.formula_parse.specs.declared.nodes.Node.{Node}
 use Rattle.formula_parse.specs.declared.reader.Frame.{Frame}
 use Rattle.formula_parse.specs.declared.reader.Phase.{Phase}
@@ -9,14 +11,24 @@ use Rattle.formula_parse.specs.Lexing.{token_at, begun_len}
 use Rattle.formula_parse.specs.Reading.{turn_at, awaits_operand}
 use Rattle.formula_parse.specs.Tokens.{Writes, goes_on_with}
 use Rattle.formula_parse.proofs.Machine.{is_operand}
+use Rattle.formula_parse.proofs.LexTokens.{token_found, token_written}
+use Rattle.formula_parse.proofs.LexFirst.{goes_on_first}
 
 -- what is found is written there, and nothing goes on with it
 pub found_is_written : (text : List ℕ) (token : Token) (n : ℕ) → token_at text ≡ Some (token, n) → (0 < n) × (n ≤ length text) × Writes (take n text) token × (goes_on_with token (drop n text) ≡ false)
-found_is_written text token n h = ?
+found_is_written text token n h =
+    let f = token_found text token n h in
+    let front : take n text ≡ f.piece = ap (take n) f.whole ∙ (ap (λ k. take k (f.piece ++ f.rest)) f.count ∙ take-append_seam f.piece f.rest) in
+    let back : drop n text ≡ f.rest = ap (drop n) f.whole ∙ (ap (λ k. drop k (f.piece ++ f.rest)) f.count ∙ drop-append_seam f.piece f.rest) in (
+      f.some,
+      omega (arith, f.count, ap length f.whole, length-append f.piece f.rest),
+      subst (λ piece. Writes piece token) (sym front) f.writes,
+      ap (goes_on_with token) back ∙ (goes_on_first token f.rest ∙ f.stops),
+    )
 
 -- what is written, and doesn't go on, is found
 pub written_is_found : (piece rest : List ℕ) (token : Token) → Writes piece token → goes_on_with token rest ≡ false → token_at (piece ++ rest) ≡ Some (token, length piece)
-written_is_found piece rest token w e = ?
+written_is_found piece rest token w e = token_written piece rest token w (sym (goes_on_first token rest) ∙ e)
 
 -- what is found depends on the token and on one byte behind it
 pub found_again : (text rest : List ℕ) (token : Token) (n m : ℕ) → token_at text ≡ Some (token, n) → n < m → m ≤ length text → token_at (take m text ++ rest) ≡ Some (token, n)

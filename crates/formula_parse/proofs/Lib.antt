@@ -5,6 +5,9 @@ pub mod LexMarks
 pub mod LexNumbers
 pub mod LexReferences
 pub mod LexTexts
+pub mod LexWords
+pub mod LexWritten
+pub mod LexTokens
 pub mod LexingLaws
 pub mod Machine
 pub mod MachineLaws
