@@ -137,3 +137,18 @@ close_written rest = refl
 pub comma_written : (rest : List ℕ) → token_at (codes "," ++ rest) ≡ Some (tokens.Comma, 1)
 unfolding token_at
 comma_written rest = refl
+
+-- a text that begins with the first byte of an operator begins with an operator
+pub operator_begins : (op : Operator) (c : ℕ) (cs rest more : List ℕ) → c ∷ rest ≡ operator_text op ++ more → (other : Operator) × (n : ℕ) × (token_at (c ∷ cs) ≡ Some (tokens.Operator other, n))
+unfolding token_at
+operator_begins (operators.Compare compare.Eq) c cs rest more e = let same : 61 ≡ c = cc in (operators.Compare compare.Eq, 1, subst (λ b. token_at (b ∷ cs) ≡ Some (tokens.Operator (operators.Compare compare.Eq), 1)) same refl)
+operator_begins (operators.Compare compare.Ne) c cs rest more e = let same : 60 ≡ c = cc in (less_at cs, operator_len (less_at cs), subst (λ b. token_at (b ∷ cs) ≡ Some (tokens.Operator (less_at cs), operator_len (less_at cs))) same refl)
+operator_begins (operators.Compare compare.Lt) c cs rest more e = let same : 60 ≡ c = cc in (less_at cs, operator_len (less_at cs), subst (λ b. token_at (b ∷ cs) ≡ Some (tokens.Operator (less_at cs), operator_len (less_at cs))) same refl)
+operator_begins (operators.Compare compare.Le) c cs rest more e = let same : 60 ≡ c = cc in (less_at cs, operator_len (less_at cs), subst (λ b. token_at (b ∷ cs) ≡ Some (tokens.Operator (less_at cs), operator_len (less_at cs))) same refl)
+operator_begins (operators.Compare compare.Gt) c cs rest more e = let same : 62 ≡ c = cc in (greater_at cs, operator_len (greater_at cs), subst (λ b. token_at (b ∷ cs) ≡ Some (tokens.Operator (greater_at cs), operator_len (greater_at cs))) same refl)
+operator_begins (operators.Compare compare.Ge) c cs rest more e = let same : 62 ≡ c = cc in (greater_at cs, operator_len (greater_at cs), subst (λ b. token_at (b ∷ cs) ≡ Some (tokens.Operator (greater_at cs), operator_len (greater_at cs))) same refl)
+operator_begins operators.Join c cs rest more e = let same : 38 ≡ c = cc in (operators.Join, 1, subst (λ b. token_at (b ∷ cs) ≡ Some (tokens.Operator (operators.Join), 1)) same refl)
+operator_begins operators.Add c cs rest more e = let same : 43 ≡ c = cc in (operators.Add, 1, subst (λ b. token_at (b ∷ cs) ≡ Some (tokens.Operator (operators.Add), 1)) same refl)
+operator_begins operators.Subtract c cs rest more e = let same : 45 ≡ c = cc in (operators.Subtract, 1, subst (λ b. token_at (b ∷ cs) ≡ Some (tokens.Operator (operators.Subtract), 1)) same refl)
+operator_begins operators.Multiply c cs rest more e = let same : 42 ≡ c = cc in (operators.Multiply, 1, subst (λ b. token_at (b ∷ cs) ≡ Some (tokens.Operator (operators.Multiply), 1)) same refl)
+operator_begins operators.Divide c cs rest more e = let same : 47 ≡ c = cc in (operators.Divide, 1, subst (λ b. token_at (b ∷ cs) ≡ Some (tokens.Operator (operators.Divide), 1)) same refl)
