@@ -8,6 +8,10 @@ pub mod LexTexts
 pub mod LexWords
 pub mod LexWritten
 pub mod LexTokens
+pub mod LexRows
+pub mod LexColumns
+pub mod LexPlain
+pub mod LexLiving
 pub mod LexingLaws
 pub mod Machine
 pub mod MachineLaws
