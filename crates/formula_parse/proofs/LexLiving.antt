@@ -15,14 +15,14 @@ live s [] = 0
 live s (b ∷ bs) = option_map_or (λ next. live next bs + 1) (next_step s b) 0
 
 -- ---- fronts
-front_lives : (front rest : List ℕ) (s e : Step) → run s (front ++ rest) ≡ Some e → (t : Step) × (run s front ≡ Some t)
+pub front_lives : (front rest : List ℕ) (s e : Step) → run s (front ++ rest) ≡ Some e → (t : Step) × (run s front ≡ Some t)
 front_lives [] rest s e h = (s, refl)
 front_lives (b ∷ bs) rest s e h =
     option_and_then_some (λ t. run t (bs ++ rest)) (next_step s b) e h (λ t step more.
     let q = front_lives bs rest t e more in
     (q.0, ap (option_and_then (λ t. run t bs)) step ∙ q.1))
 
-front_joins : (front rest : List ℕ) (s t : Step) → run s front ≡ Some t → run s (front ++ rest) ≡ run t rest
+pub front_joins : (front rest : List ℕ) (s t : Step) → run s front ≡ Some t → run s (front ++ rest) ≡ run t rest
 front_joins [] rest s t h = ap (λ x. run x rest) (same_Some _ _ h)
 front_joins (b ∷ bs) rest s t h =
     option_and_then_some (λ u. run u bs) (next_step s b) t h (λ u step more.
@@ -36,7 +36,7 @@ abbrev len_by : List ℕ → Option Step → ℕ
 len_by bs o = option_map_or (λ next. live next bs + 1) o 0
 
 -- the part that lives is run through
-live_front : (s : Step) (text : List ℕ) → (t : Step) × (run s (take (live s text) text) ≡ Some t)
+pub live_front : (s : Step) (text : List ℕ) → (t : Step) × (run s (take (live s text) text) ≡ Some t)
 live_front s [] = (s, refl)
 live_front s (b ∷ bs) = ⊎_elim
     (λ none. let e : live s (b ∷ bs) ≡ 0 = ap (len_by bs) none in (s, ap (λ n. run s (take n (b ∷ bs))) e))
@@ -48,8 +48,16 @@ live_front s (b ∷ bs) = ⊎_elim
     ∙ q.1)))
     (cases_option (next_step s b))
 
--- no longer front is
-live_most : (s t : Step) (text : List ℕ) (n : ℕ) → n ≤ length text → run s (take n text) ≡ Some t → n ≤ live s text
+-- what lives is no more than the text
+pub live_within : (s : Step) (text : List ℕ) → live s text ≤ length text
+live_within s [] = omega arith
+live_within s (b ∷ bs) = ⊎_elim
+    (λ none. let e : live s (b ∷ bs) ≡ 0 = ap (len_by bs) none in omega arith)
+    (λ some. let e : live s (b ∷ bs) ≡ live some.0 bs + 1 = ap (len_by bs) some.1 in let h = live_within some.0 bs in omega arith)
+    (cases_option (next_step s b))
+
+-- no longer front lives
+pub live_most : (s t : Step) (text : List ℕ) (n : ℕ) → n ≤ length text → run s (take n text) ≡ Some t → n ≤ live s text
 live_most s t text zero inside h = omega arith
 live_most s t [] (suc n) inside h = absurd (omega arith)
 live_most s t (b ∷ bs) (suc n) inside h = ⊎_elim
@@ -61,7 +69,7 @@ live_most s t (b ∷ bs) (suc n) inside h = ⊎_elim
     (cases_option (next_step s b))
 
 -- every step goes on to a whole reference
-ending : (s : Step) → (more : List ℕ) × (row : ℕ) × (run s more ≡ Some (Row row))
+pub ending : (s : Step) → (more : List ℕ) × (row : ℕ) × (run s more ≡ Some (Row row))
 unfolding next_step
 ending Start = (codes "A1", 1, refl)
 ending ColumnMark = (codes "A1", 1, refl)
@@ -85,10 +93,10 @@ row_mark_live [] = refl
 row_mark_live (b ∷ bs) = row_live 0 (b ∷ bs)
 
 -- what a `$` and the digits of a row come to
-abbrev behind_letters : List ℕ → ℕ
+abbrev pub behind_letters : List ℕ → ℕ
 behind_letters w = mark_len w 0 + row_begun 0 (drop (mark_len w 0) w)
 
-marked : (b : ℕ) (bs : List ℕ) → mark_len (b ∷ bs) 0 ≡ cond (eqb b 36) 1 0
+pub marked : (b : ℕ) (bs : List ℕ) → mark_len (b ∷ bs) 0 ≡ cond (eqb b 36) 1 0
 marked b bs = ap (λ t. cond t 1 0) (passes_seam (λ b. eqb b 36) [] (b ∷ bs))
 
 behind_mark : (b : ℕ) (bs : List ℕ) → eqb b 36 ≡ true → behind_letters (b ∷ bs) ≡ row_begun 0 bs + 1
@@ -111,18 +119,18 @@ no_letter : (b : ℕ) → (eqb b 36 ≡ true → is_ascii_alphabetic b ≡ false
 no_letter b = (λ h. grind (arith, nat_tests), λ h. grind (arith, nat_tests), λ h. grind (arith, nat_tests), λ h. grind (arith, nat_tests), λ h. grind (arith, nat_tests))
 
 -- what follows the letters of a column
-abbrev behind_column : ℕ → List ℕ → ℕ
+abbrev pub behind_column : ℕ → List ℕ → ℕ
 behind_column n text = column_begun n text + behind_letters (drop (column_begun n text) text)
 
 at_no_column : (n : ℕ) (text : List ℕ) → column_begun n text ≡ 0 → behind_column n text ≡ behind_letters text
 at_no_column n text e = ap (λ k. k + behind_letters (drop k text)) e ∙ omega arith
 
-column_more : (n b : ℕ) (bs : List ℕ) (k : ℕ) → column_begun n (b ∷ bs) ≡ k + 1 → behind_column n (b ∷ bs) ≡ k + behind_letters (drop k bs) + 1
+pub column_more : (n b : ℕ) (bs : List ℕ) (k : ℕ) → column_begun n (b ∷ bs) ≡ k + 1 → behind_column n (b ∷ bs) ≡ k + behind_letters (drop k bs) + 1
 column_more n b bs k e =
     let f : column_begun n (b ∷ bs) ≡ suc k = e ∙ add-one k in
     ap (λ j. j + behind_letters (drop j (b ∷ bs))) f ∙ omega arith
 
-column_live : (n : ℕ) (text : List ℕ) → live (Column n) text ≡ behind_column n text
+pub column_live : (n : ℕ) (text : List ℕ) → live (Column n) text ≡ behind_column n text
 unfolding next_step
 column_live n [] = refl
 column_live n (b ∷ bs) = ⊎_elim

@@ -12,6 +12,7 @@ pub mod LexRows
 pub mod LexColumns
 pub mod LexPlain
 pub mod LexLiving
+pub mod LexCorners
 pub mod LexingLaws
 pub mod Machine
 pub mod MachineLaws
