@@ -51,7 +51,7 @@ call_written written rest h =
 upper_letter : (b : ℕ) → is_ascii_uppercase (to_ascii_uppercase b) ≡ true → (is_ascii_alphabetic b ≡ true) × (is_name_byte b ≡ true)
 upper_letter b h = (grind (arith, nat_tests), grind (arith, nat_tests))
 
-letters_name : (word : List ℕ) → list_all is_ascii_uppercase (capitals word) ≡ true → list_all is_name_byte word ≡ true
+pub letters_name : (word : List ℕ) → list_all is_ascii_uppercase (capitals word) ≡ true → list_all is_name_byte word ≡ true
 letters_name [] h = refl
 letters_name (b ∷ bs) h = let p = and_parts (is_ascii_uppercase (to_ascii_uppercase b)) _ h in and_from _ _ (upper_letter b p.0).1 (letters_name bs p.1)
 
@@ -102,7 +102,7 @@ four_true x = front_short is_ascii_uppercase (codes "TRUE") x refl
 four_false : (x : List ℕ) → 4 ≤ length (take_while is_ascii_uppercase (codes "FALSE" ++ x))
 four_false x = let h = front_short is_ascii_uppercase (codes "FALSE") x refl in omega arith
 
-column_none : (text : List ℕ) → 4 ≤ length (take_while is_ascii_uppercase text) → column_at text ≡ None
+pub column_none : (text : List ℕ) → 4 ≤ length (take_while is_ascii_uppercase text) → column_at text ≡ None
 unfolding column_at
 column_none text many = cond-false _ _ _ (and_left _ _ (and_right _ _ (lt-leb (length (take_while is_ascii_uppercase text)) 3 (omega arith))))
 

@@ -13,6 +13,11 @@ pub mod LexColumns
 pub mod LexPlain
 pub mod LexLiving
 pub mod LexCorners
+pub mod LexFronts
+pub mod LexTextFronts
+pub mod LexErrorFronts
+pub mod LexNameFronts
+pub mod LexSheetFronts
 pub mod LexingLaws
 pub mod Machine
 pub mod MachineLaws
