@@ -76,7 +76,7 @@ pub record IsMark (b : ℕ) : Type 0 where
   pub no_hash : eqb b 35 ≡ false
   pub no_word : begins_word b ≡ false
 
-word_is : (b : ℕ) → begins_word b ≡ true → (is_ascii_digit b ≡ false) × (eqb b 34 ≡ false) × (eqb b 35 ≡ false)
+pub word_is : (b : ℕ) → begins_word b ≡ true → (is_ascii_digit b ≡ false) × (eqb b 34 ≡ false) × (eqb b 35 ≡ false)
 word_is b w = (grind (arith, nat_tests), grind (arith, nat_tests), grind (arith, nat_tests))
 
 pub at_word : (b : ℕ) (rest : List ℕ) → begins_word b ≡ true → token_at (b ∷ rest) ≡ word_at (b ∷ rest)

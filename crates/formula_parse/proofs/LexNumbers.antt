@@ -55,6 +55,10 @@ number_found b rest token n d h =
 pub number_begins : (b : ℕ) (rest : List ℕ) → is_ascii_digit b ≡ true → token_at (b ∷ rest) ≡ Some (tokens.Number (number_value (take_while is_ascii_digit (b ∷ rest))), length (take_while is_ascii_digit (b ∷ rest)))
 number_begins b rest d = at_digit b rest d
 
+-- a numeral begins with a digit
+pub numeral_first : (b : ℕ) (bs : List ℕ) → IsNumeral 10 (b ∷ bs) → is_ascii_digit b ≡ true
+numeral_first b bs w = (and_parts (is_ascii_digit b) _ (digits.from (b ∷ bs) w.1)).0
+
 -- the number that is written is found
 pub number_written : (piece rest : List ℕ) → IsNumeral 10 piece → first_passes is_ascii_digit rest ≡ false → token_at (piece ++ rest) ≡ Some (tokens.Number (number_value piece), length piece)
 number_written [] rest w stops = absurd (omega (arith, w.0))

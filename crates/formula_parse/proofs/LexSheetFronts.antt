@@ -58,7 +58,7 @@ sheet_front text = by_sheet (sheet_at (capitals text)) refl
         }
 
 -- how much of a text a reference begins with, by its sheet
-reference_begun_is : (text front back : List ℕ) → text ≡ front ++ back → sheet_len text (sheet_at (capitals text)) ≡ length front → reference_begun text ≡ length front + plain_begun back
+pub reference_begun_is : (text front back : List ℕ) → text ≡ front ++ back → sheet_len text (sheet_at (capitals text)) ≡ length front → reference_begun text ≡ length front + plain_begun back
 reference_begun_is text front back whole count =
     let left : drop (length front) text ≡ back = ap (drop (length front)) whole ∙ drop-append_seam front back in
     ap (λ n. n + plain_begun (drop n text)) count ∙ ap (λ x. length front + plain_begun x) left
@@ -71,18 +71,18 @@ reference_within text =
     omega (arith, ap length f.whole, length-append f.front f.back)
 
 -- a reference with another sheet
-abbrev on_sheet : Option ℕ → RefText → RefText
+abbrev pub on_sheet : Option ℕ → RefText → RefText
 on_sheet o r = record { sheet = o; row = r.row; col = r.col; row_fixed = r.row_fixed; col_fixed = r.col_fixed }
 
 -- the part of a reference behind its sheet
-abbrev behind_sheet : RefText → List ℕ
+abbrev pub behind_sheet : RefText → List ℕ
 behind_sheet r = mark r.col_fixed ++ (column_letters r.col ++ (mark r.row_fixed ++ decimal r.row))
 
-sheet_and : (o : Option ℕ) (r : RefText) → reference_capitals (on_sheet o r) ≡ sheet_capitals o ++ behind_sheet r
+pub sheet_and : (o : Option ℕ) (r : RefText) → reference_capitals (on_sheet o r) ≡ sheet_capitals o ++ behind_sheet r
 unfolding reference_capitals
 sheet_and o r = refl
 
-own_sheet : (r : RefText) → reference_capitals r ≡ sheet_capitals r.sheet ++ behind_sheet r
+pub own_sheet : (r : RefText) → reference_capitals r ≡ sheet_capitals r.sheet ++ behind_sheet r
 unfolding reference_capitals
 own_sheet r = refl
 
@@ -91,7 +91,7 @@ with_sheet front piece o r none e f =
     let plain : capitals piece ≡ behind_sheet r = f ∙ (own_sheet r ∙ ap (λ s. sheet_capitals s ++ behind_sheet r) none) in
     map-append to_ascii_uppercase front piece ∙ (ap (λ x. x ++ capitals piece) e ∙ (ap (λ x. sheet_capitals o ++ x) plain ∙ sym (sheet_and o r)))
 
-sheet_fits : (o : Option ℕ) → IfSome o (λ sheet. (1 ≤ sheet) × (sheet ≤ 64)) → (1 ≤ unwrap_or o 1) × (unwrap_or o 1 ≤ 64)
+pub sheet_fits : (o : Option ℕ) → IfSome o (λ sheet. (1 ≤ sheet) × (sheet ≤ 64)) → (1 ≤ unwrap_or o 1) × (unwrap_or o 1 ≤ 64)
 sheet_fits None fits = (omega arith, omega arith)
 sheet_fits (Some sheet) fits = fits
 
@@ -119,7 +119,7 @@ sheet_there : (sheet : ℕ) (rest : List ℕ) → 1 ≤ sheet → sheet ≤ 64 �
 unfolding sheet_at
 sheet_there sheet rest some small = ap sheet_number_at (append_assoc (decimal sheet) (codes "!") rest) ∙ sheet_number_there sheet rest some small
 
-sheet_counted : (text front back : List ℕ) (sheet : ℕ) → text ≡ front ++ back → capitals front ≡ sheet_capitals (Some sheet) → 1 ≤ sheet → sheet ≤ 64 → sheet_len text (sheet_at (capitals text)) ≡ length front
+pub sheet_counted : (text front back : List ℕ) (sheet : ℕ) → text ≡ front ++ back → capitals front ≡ sheet_capitals (Some sheet) → 1 ≤ sheet → sheet ≤ 64 → sheet_len text (sheet_at (capitals text)) ≡ length front
 sheet_counted text front back sheet whole e some small =
     let upper : capitals text ≡ sheet_capitals (Some sheet) ++ capitals back = ap capitals whole ∙ (map-append to_ascii_uppercase front back ∙ ap (λ x. x ++ capitals back) e) in
     let read : sheet_at (capitals text) ≡ Some (Some sheet, capitals back) = ap sheet_at upper ∙ sheet_there sheet (capitals back) some small in
@@ -156,7 +156,7 @@ empty_front : (front : List ℕ) → length front ≡ 0 → front ≡ []
 empty_front [] e = refl
 empty_front (c ∷ cs) e = absurd (omega arith)
 
-plain_reference_most : (text more : List ℕ) (m : ℕ) → m ≤ length text → IsPlain (take m text ++ more) → m ≤ reference_begun text
+pub plain_reference_most : (text more : List ℕ) (m : ℕ) → m ≤ length text → IsPlain (take m text ++ more) → m ≤ reference_begun text
 plain_reference_most text more m inside p = by_sheet (sheet_front text)
   where
     by_spelled : (f : SheetFront text) (o : Option ℕ) → capitals f.front ≡ sheet_capitals o → m ≤ reference_begun text

@@ -25,7 +25,7 @@ pub passes_split : (p : ℕ → Bool) (text front rest : List ℕ) (n : ℕ) →
 passes_split p text front rest n e f = ap (λ t. passes_at p t n) e ∙ (ap (passes_at p (front ++ rest)) f ∙ passes_seam p front rest)
 
 -- the byte that passes a test for itself
-first_is : (k : ℕ) (rest : List ℕ) → first_passes (λ b. eqb b k) rest ≡ true → (more : List ℕ) × (rest ≡ k ∷ more)
+pub first_is : (k : ℕ) (rest : List ℕ) → first_passes (λ b. eqb b k) rest ≡ true → (more : List ℕ) × (rest ≡ k ∷ more)
 first_is k [] h = absurd (cc)
 first_is k (c ∷ cs) h = (cs, ap (λ b. b ∷ cs) (eqb-true c k h))
 

@@ -18,6 +18,9 @@ pub mod LexTextFronts
 pub mod LexErrorFronts
 pub mod LexNameFronts
 pub mod LexSheetFronts
+pub mod LexReferenceFronts
+pub mod LexAreaFronts
+pub mod LexBegun
 pub mod LexingLaws
 pub mod Machine
 pub mod MachineLaws
