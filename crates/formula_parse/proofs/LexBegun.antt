@@ -5,7 +5,9 @@ use Rattle.std.proofs.lemmas.Bool.Decides.{nat_tests}
 use Rattle.std.proofs.lemmas.Option.{none-some}
 use Rattle.std.specs.Char.{is_ascii_digit, is_ascii_alphabetic, is_ascii_control, is_ascii_uppercase, to_ascii_uppercase}
 use Rattle.std.specs.List.{list_all, position_or_len}
+use Rattle.cell_refs.specs.declared.references.RefText.{RefText}
 use Rattle.cell_refs.specs.Written.{capitals, reference_at}
+use Rattle.cell_values.specs.declared.errors.ErrorKind.{ErrorKind}
 use Rattle.cell_values.specs.Name.{is_name}
 use Rattle.formula_parse.specs.declared.tokens.Token.{Token}
 use Rattle.formula_parse.specs.declared.tokens.Token.TheVariants as tokens
@@ -126,14 +128,14 @@ first_letter b bs (c ∷ cs) more e h =
 pub boolean_first : (v : Bool) (b : ℕ) (bs : List ℕ) → Writes (b ∷ bs) (tokens.Boolean v) → begins_word b ≡ true
 boolean_first v b bs w = upper_word b (and_parts (is_ascii_uppercase (to_ascii_uppercase b)) _ (ap (list_all is_ascii_uppercase) w ∙ boolean_upper v)).0
 
-pub reference_first : (r : _) (b : ℕ) (bs : List ℕ) → Writes (b ∷ bs) (tokens.Reference r) → begins_word b ≡ true
+pub reference_first : (r : RefText) (b : ℕ) (bs : List ℕ) → Writes (b ∷ bs) (tokens.Reference r) → begins_word b ≡ true
 reference_first r b bs w =
     let p = piece_refers (b ∷ bs) r w in
     let f = reference_begins (b ∷ bs) r p.0 p.1 in
     let same : b ≡ f.0 = cc (f.2) in
     ap begins_word same ∙ f.3
 
-pub area_first : (r s : _) (b : ℕ) (bs : List ℕ) → Writes (b ∷ bs) (tokens.Area r s) → begins_word b ≡ true
+pub area_first : (r s : RefText) (b : ℕ) (bs : List ℕ) → Writes (b ∷ bs) (tokens.Area r s) → begins_word b ≡ true
 area_first r s b bs w =
     let p = piece_refers w.0 r w.3 in
     let f = reference_begins w.0 r p.0 p.1 in
@@ -153,7 +155,7 @@ quote_most b rest more t k q inside w =
     subst (λ c. Writes (c ∷ (take k rest ++ more)) (tokens.Text t) → suc k ≤ begun_len (c ∷ rest)) (sym q)
     (λ w. let h = text_most rest more t k (omega arith) w in omega (arith, begun_quote rest)) w
 
-hash_most : (b : ℕ) (rest more : List ℕ) (e : _) (k : ℕ) → b ≡ 35 → suc k ≤ length (b ∷ rest) → Writes (b ∷ (take k rest ++ more)) (tokens.Error e) → suc k ≤ begun_len (b ∷ rest)
+hash_most : (b : ℕ) (rest more : List ℕ) (e : ErrorKind) (k : ℕ) → b ≡ 35 → suc k ≤ length (b ∷ rest) → Writes (b ∷ (take k rest ++ more)) (tokens.Error e) → suc k ≤ begun_len (b ∷ rest)
 hash_most b rest more e k q inside w =
     subst (λ c. Writes (c ∷ (take k rest ++ more)) (tokens.Error e) → suc k ≤ begun_len (c ∷ rest)) (sym q)
     (λ w. let h = error_most (35 ∷ rest) more e (suc k) (omega arith) w in omega (arith, begun_hash rest)) w

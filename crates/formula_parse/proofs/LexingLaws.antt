@@ -1,6 +1,7 @@
 -- The token at the front of a text is the one that the grammar writes there.
-use Rattle.std.proofs.Common.{◌≡◌, ℕ, suc, ◌<◌, ◌≤◌, Bool, true, false, ◌+◌, ◌-◌, List, [], ◌∷◌, ◌++◌, length, take, drop, Option, Some, None, refl, sym, ap, subst, ◌∙◌, arith}
-use Rattle.std.proofs.lemmas.List.{length-append, append_assoc, take-append-drop, drop-append-le, length-drop, length-take-le, take-take}
+use Rattle.std.proofs.Common.{◌≡◌, ℕ, suc, ◌<◌, ◌≤◌, Bool, true, false, ◌+◌, ◌-◌, List, [], ◌∷◌, ◌++◌, length, take, drop, Option, Some, None, refl, sym, ap, subst, ◌∙◌, arith, ⊎_elim}
+use Rattle.std.proofs.lemmas.Bool.{cases_lt}
+use Rattle.std.proofs.lemmas.List.{length-append, append_assoc, take-append-drop, take_at, length-take-le}
 use Rattle.std.proofs.Math.Seq.{take-append_seam, drop-append_seam, take-append-add}
 use Rattle.formula_parse.specs.declared.nodes.Node.{Node}
 use Rattle.formula_parse.specs.declared.reader.Frame.{Frame}
@@ -13,7 +14,10 @@ use Rattle.formula_parse.specs.Lexing.{token_at, begun_len}
 use Rattle.formula_parse.specs.Reading.{turn_at, awaits_operand, operator_turn}
 use Rattle.formula_parse.specs.Tokens.{Writes, goes_on, goes_on_with}
 use Rattle.formula_parse.proofs.Machine.{is_operand}
+use Rattle.formula_parse.proofs.LexBegun.{begun_within, goes_on_to_operand}
+use Rattle.formula_parse.proofs.LexFronts.{front_of_piece}
 use Rattle.formula_parse.proofs.LexTokens.{token_found, token_written}
+use Rattle.formula_parse.proofs.LexTurns.{no_longer_stands}
 use Rattle.formula_parse.proofs.LexFirst.{goes_on_first, first_passes}
 use Rattle.formula_parse.proofs.LexMarks.{operator_begins, close_written, comma_written}
 
@@ -55,15 +59,32 @@ found_again text rest token n m h l b =
 
 -- how much of a text an operand begins with is no more than the text
 pub begun_is_within : (text : List ℕ) → begun_len text ≤ length text
-begun_is_within text = ?
+begun_is_within text = begun_within text
 
 -- where no token stands whole and something has begun, an operand goes on with it
 pub begun_goes_on : (text : List ℕ) → token_at text ≡ None → 0 < begun_len text → (more : List ℕ) × (token : Token) × (is_operand token ≡ true) × Writes (take (begun_len text) text ++ more) token
-begun_goes_on text n b = ?
+begun_goes_on text n b = goes_on_to_operand text n b
+
+-- the token at the front of a text, written within so many bytes, is found there
+stands_whole : (text rest : List ℕ) (token : Token) (n m : ℕ) → token_at (take m text ++ rest) ≡ Some (token, n) → n < m → m ≤ length text → token_at text ≡ Some (token, n)
+stands_whole text rest token n m h less inside =
+    let count : length (take m text) ≡ m = length-take-le m text inside in
+    let same : take m (take m text ++ rest) ++ drop m text ≡ text = ap (λ x. x ++ drop m text) (take_at (take m text) rest m count) ∙ take-append-drop m text in
+    sym (ap token_at same) ∙ found_again (take m text ++ rest) (drop m text) token n m h less (omega (arith, length-append (take m text) rest))
 
 -- where an operand is awaited and the token at the front can't stand, no token that can begins with one byte more than has begun
 pub no_operand_goes_on : (text rest piece more : List ℕ) (phase : Phase) (frames : List Frame) (token : Token) → awaits_operand phase ≡ true → ((other : Token) (n : ℕ) → token_at text ≡ Some (other, n) → turn_at phase frames other ≡ None) → begun_len text < length text → take (suc (begun_len text)) text ++ rest ≡ piece ++ more → Writes piece token → goes_on_with token more ≡ false → turn_at phase frames token ≡ None
-no_operand_goes_on text rest piece more phase frames token a s l e w g = ?
+no_operand_goes_on [] rest piece more phase frames token a s l e w g = absurd (omega arith)
+no_operand_goes_on (c ∷ cs) rest piece more phase frames token a s l e w g =
+    let text = c ∷ cs in
+    let k = begun_len text in
+    let found : token_at (take (suc k) text ++ rest) ≡ Some (token, length piece) = ap token_at e ∙ written_is_found piece more token w g in
+    ⊎_elim
+    (λ less. s token (length piece) (stands_whole text rest token (length piece) (suc k) found less l))
+    (λ long.
+    let f = front_of_piece text rest piece more (suc k) l long e in
+    no_longer_stands c cs f.0 phase frames token k refl a s l (subst (λ x. Writes x token) (sym f.1) w))
+    (cases_lt (length piece) (suc k))
 
 -- an operator stands behind an operand wherever another does
 no_frames : (operand : Node) (op other : Operator) (frames : List Frame) → operator_turn operand op frames ≡ None → operator_turn operand other frames ≡ None

@@ -21,6 +21,7 @@ pub mod LexSheetFronts
 pub mod LexReferenceFronts
 pub mod LexAreaFronts
 pub mod LexBegun
+pub mod LexTurns
 pub mod LexingLaws
 pub mod Machine
 pub mod MachineLaws
