@@ -42,10 +42,12 @@ live_front s (b ∷ bs) = ⊎_elim
     (λ none. let e : live s (b ∷ bs) ≡ 0 = ap (len_by bs) none in (s, ap (λ n. run s (take n (b ∷ bs))) e))
     (λ some.
     let e : live s (b ∷ bs) ≡ suc (live some.0 bs) = ap (len_by bs) some.1 ∙ add-one (live some.0 bs) in
-    let q = live_front some.0 bs in
-    (q.0, ap (λ n. run s (take n (b ∷ bs))) e
-    ∙ (ap (option_and_then (λ t. run t (take (live some.0 bs) bs))) some.1
-    ∙ q.1)))
+    let q = live_front some.0 bs in (
+      q.0,
+      ap (λ n. run s (take n (b ∷ bs))) e
+          ∙ (ap (option_and_then (λ t. run t (take (live some.0 bs) bs))) some.1
+          ∙ q.1),
+    ))
     (cases_option (next_step s b))
 
 -- what lives is no more than the text

@@ -138,6 +138,7 @@ row_back n (b ∷ bs) s h =
     let v : digits_value_after 10 n (digits (b ∷ bs)) ≡ digits_value_after 10 (10 * n + (b - 48)) (digits bs) = ap (digits_value_after 10 n) sp.0 ∙ ap (λ m. digits_value_after 10 m (digits bs)) next in
     let small = q.2 p.2 in
     (sp.1 ∙ q.0, q.1 ∙ ap Row (sym v), λ _. omega arith))
+
 -- ---- the parts of what the readers of references answer
 pub number_parts : (limit : ℕ) (text : List ℕ) (row : ℕ) (rest : List ℕ) → number_at limit text ≡ Some (row, rest) → (48 < slice_index (take_while is_ascii_digit text) 0) × (digits_value 10 (take_while is_ascii_digit text) ≤ limit) × (digits_value 10 (take_while is_ascii_digit text) ≡ row) × (drop (length (take_while is_ascii_digit text)) text ≡ rest)
 unfolding number_at
