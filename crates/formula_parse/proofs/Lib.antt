@@ -2,3 +2,5 @@
 pub mod LexingLaws
 pub mod Machine
 pub mod MachineLaws
+pub mod NodeLaws
+pub mod Printing
