@@ -2,5 +2,8 @@
 pub mod LexingLaws
 pub mod Machine
 pub mod MachineLaws
+pub mod NamingLaws
+pub mod NamingCollected
+pub mod NamingTokens
 pub mod NodeLaws
 pub mod Printing
