@@ -7,3 +7,6 @@ pub mod NamingCollected
 pub mod NamingTokens
 pub mod NodeLaws
 pub mod Printing
+pub mod PrintedFlow
+pub mod PrintedThinned
+pub mod PrintedWritten
