@@ -8,5 +8,7 @@ pub mod NamingTokens
 pub mod NodeLaws
 pub mod Printing
 pub mod PrintedFlow
+pub mod PrintedPieces
+pub mod PrintedShort
 pub mod PrintedThinned
 pub mod PrintedWritten
