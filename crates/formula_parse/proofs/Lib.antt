@@ -7,8 +7,11 @@ pub mod NamingCollected
 pub mod NamingTokens
 pub mod NodeLaws
 pub mod Printing
+pub mod Printed
+pub mod PrintedDepth
 pub mod PrintedFlow
 pub mod PrintedPieces
 pub mod PrintedShort
+pub mod PrintedSpelled
 pub mod PrintedThinned
 pub mod PrintedWritten
