@@ -1,12 +1,19 @@
 -- Lemmas of this crate.
+pub mod Causes
+pub mod ChainLinks
+pub mod ChainTaken
+pub mod Completing
+pub mod Depths
 pub mod LexingLaws
 pub mod Machine
 pub mod MachineLaws
-pub mod NamingLaws
+pub mod Marks
 pub mod NamingCollected
+pub mod NamingLaws
 pub mod NamingTokens
 pub mod NodeLaws
-pub mod Printing
+pub mod Outcomes
+pub mod ParseLaws
 pub mod Printed
 pub mod PrintedDepth
 pub mod PrintedFlow
@@ -15,3 +22,14 @@ pub mod PrintedShort
 pub mod PrintedSpelled
 pub mod PrintedThinned
 pub mod PrintedWritten
+pub mod Printing
+pub mod Runs
+pub mod SyntaxPlaces
+pub mod TokenReads
+pub mod TurnCloses
+pub mod TurnGrammar
+pub mod TurnOpens
+pub mod TurnRuns
+pub mod TurnStands
+pub mod TurnTaken
+pub mod Uniqueness

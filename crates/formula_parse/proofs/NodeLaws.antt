@@ -13,43 +13,53 @@ use Rattle.formula_parse.specs.declared.nodes.Node.TheOpen as layer
 use Rattle.formula_parse.specs.declared.nodes.Node.TheVariants as nodes
 use Rattle.formula_parse.specs.declared.nodes.Node.TheViews.{roll-Node}
 use Rattle.formula_parse.specs.declared.operators.Operator.{Operator}
-use Rattle.formula_parse.specs.declared.tokens.Token.{Token}
 use Rattle.formula_parse.specs.declared.tokens.Token.TheVariants as tokens
 use Rattle.formula_parse.specs.Grammar.{Written, written_step, IsWritten, IsSigned, IsEnclosed, AreArguments, IsChainAt}
 
 -- ---- what a fold makes of each kind of node
 module _ (A : Type 0) (step : Node-F A → A) where
+  -- a fold of a number
   pub fold_number : (n : ℤ) → fold-Node A step (nodes.Number n) ≡ step (layer.Number n)
   fold_number n = ap (fold-Node A step) (sym (nodes.rolls-Number n)) ∙ fold-roll-Node A step (layer.Number n)
 
+  -- a fold of a text
   pub fold_text : (t : Text) → fold-Node A step (nodes.Text t) ≡ step (layer.Text t)
   fold_text t = ap (fold-Node A step) (sym (nodes.rolls-Text t)) ∙ fold-roll-Node A step (layer.Text t)
 
+  -- a fold of an error
   pub fold_error : (e : ErrorKind) → fold-Node A step (nodes.Error e) ≡ step (layer.Error e)
   fold_error e = ap (fold-Node A step) (sym (nodes.rolls-Error e)) ∙ fold-roll-Node A step (layer.Error e)
 
+  -- a fold of a Boolean
   pub fold_boolean : (b : Bool) → fold-Node A step (nodes.Boolean b) ≡ step (layer.Boolean b)
   fold_boolean b = ap (fold-Node A step) (sym (nodes.rolls-Boolean b)) ∙ fold-roll-Node A step (layer.Boolean b)
 
+  -- a fold of a reference
   pub fold_reference : (r : RefText) → fold-Node A step (nodes.Reference r) ≡ step (layer.Reference r)
   fold_reference r = ap (fold-Node A step) (sym (nodes.rolls-Reference r)) ∙ fold-roll-Node A step (layer.Reference r)
 
+  -- a fold of an area
   pub fold_area : (a : RefText) (b : RefText) → fold-Node A step (nodes.Area a b) ≡ step (layer.Area a b)
   fold_area a b = ap (fold-Node A step) (sym (nodes.rolls-Area a b)) ∙ fold-roll-Node A step (layer.Area a b)
 
+  -- a fold of a call
   pub fold_call : (name : Name) (arguments : List Node) → fold-Node A step (nodes.Call name arguments) ≡ step (layer.Call name (map (fold-Node A step) arguments))
   fold_call name arguments = ap (fold-Node A step) (sym (nodes.rolls-Call name arguments)) ∙ fold-roll-Node A step (layer.Call name arguments)
 
+  -- a fold of parentheses
   pub fold_parentheses : (inner : Node) → fold-Node A step (nodes.Parentheses inner) ≡ step (layer.Parentheses (fold-Node A step inner))
   fold_parentheses inner = ap (fold-Node A step) (sym (nodes.rolls-Parentheses inner)) ∙ fold-roll-Node A step (layer.Parentheses inner)
 
+  -- a fold of a negation
   pub fold_negation : (count : ℕ) (operand : Node) → fold-Node A step (nodes.Negation count operand) ≡ step (layer.Negation count (fold-Node A step operand))
   fold_negation count operand = ap (fold-Node A step) (sym (nodes.rolls-Negation count operand)) ∙ fold-roll-Node A step (layer.Negation count operand)
 
+  -- a fold of a chain
   pub fold_chain : (operands : List Node) (operators : List Operator) → fold-Node A step (nodes.Chain operands operators) ≡ step (layer.Chain (map (fold-Node A step) operands) operators)
   fold_chain operands operators = ap (fold-Node A step) (sym (nodes.rolls-Chain operands operators)) ∙ fold-roll-Node A step (layer.Chain operands operators)
 
 -- ---- what each kind of node is written with
+-- two functions in turn over a list
 map_twice {ℓ} : {X Y : Type 0} {Z : Type ℓ} (f : X → Y) (g : Y → Z) (xs : List X) → map (λ x. g (f x)) xs ≡ map g (map f xs)
 map_twice f g [] = refl
 map_twice f g (x ∷ xs) = ap (λ zs. g (f x) ∷ zs) (map_twice f g xs)
@@ -75,43 +85,43 @@ written_natural X v k (layer.Chain operands ops) = ap (λ parts. λ place writte
 written_roll : (d : Node-F Node) → IsWritten (roll-Node d) ≡ written_step Node (λ y. y) IsWritten d
 written_roll d = rec-roll-Node Written written_step written_natural d
 
--- both ways between what a node is written with and the grammar's words for it
+-- what a number is written with
 pub number_is_written : (n : ℤ) → IsWritten (nodes.Number n) ≡ written_step Node (λ y. y) IsWritten (layer.Number n)
 number_is_written n = ap IsWritten (sym (nodes.rolls-Number n)) ∙ written_roll (layer.Number n)
 
--- both ways between what a node is written with and the grammar's words for it
+-- what a text is written with
 pub text_is_written : (t : Text) → IsWritten (nodes.Text t) ≡ written_step Node (λ y. y) IsWritten (layer.Text t)
 text_is_written t = ap IsWritten (sym (nodes.rolls-Text t)) ∙ written_roll (layer.Text t)
 
--- both ways between what a node is written with and the grammar's words for it
+-- what an error is written with
 pub error_is_written : (e : ErrorKind) → IsWritten (nodes.Error e) ≡ written_step Node (λ y. y) IsWritten (layer.Error e)
 error_is_written e = ap IsWritten (sym (nodes.rolls-Error e)) ∙ written_roll (layer.Error e)
 
--- both ways between what a node is written with and the grammar's words for it
+-- what a Boolean is written with
 pub boolean_is_written : (b : Bool) → IsWritten (nodes.Boolean b) ≡ written_step Node (λ y. y) IsWritten (layer.Boolean b)
 boolean_is_written b = ap IsWritten (sym (nodes.rolls-Boolean b)) ∙ written_roll (layer.Boolean b)
 
--- both ways between what a node is written with and the grammar's words for it
+-- what a reference is written with
 pub reference_is_written : (r : RefText) → IsWritten (nodes.Reference r) ≡ written_step Node (λ y. y) IsWritten (layer.Reference r)
 reference_is_written r = ap IsWritten (sym (nodes.rolls-Reference r)) ∙ written_roll (layer.Reference r)
 
--- both ways between what a node is written with and the grammar's words for it
+-- what an area is written with
 pub area_is_written : (a : RefText) (b : RefText) → IsWritten (nodes.Area a b) ≡ written_step Node (λ y. y) IsWritten (layer.Area a b)
 area_is_written a b = ap IsWritten (sym (nodes.rolls-Area a b)) ∙ written_roll (layer.Area a b)
 
--- both ways between what a node is written with and the grammar's words for it
+-- what a call is written with
 pub call_is_written : (name : Name) (arguments : List Node) → IsWritten (nodes.Call name arguments) ≡ written_step Node (λ y. y) IsWritten (layer.Call name arguments)
 call_is_written name arguments = ap IsWritten (sym (nodes.rolls-Call name arguments)) ∙ written_roll (layer.Call name arguments)
 
--- both ways between what a node is written with and the grammar's words for it
+-- what parentheses are written with
 pub parentheses_is_written : (inner : Node) → IsWritten (nodes.Parentheses inner) ≡ written_step Node (λ y. y) IsWritten (layer.Parentheses inner)
 parentheses_is_written inner = ap IsWritten (sym (nodes.rolls-Parentheses inner)) ∙ written_roll (layer.Parentheses inner)
 
--- both ways between what a node is written with and the grammar's words for it
+-- what a negation is written with
 pub negation_is_written : (count : ℕ) (operand : Node) → IsWritten (nodes.Negation count operand) ≡ written_step Node (λ y. y) IsWritten (layer.Negation count operand)
 negation_is_written count operand = ap IsWritten (sym (nodes.rolls-Negation count operand)) ∙ written_roll (layer.Negation count operand)
 
--- both ways between what a node is written with and the grammar's words for it
+-- what a chain is written with
 pub chain_is_written : (operands : List Node) (operators : List Operator) → IsWritten (nodes.Chain operands operators) ≡ written_step Node (λ y. y) IsWritten (layer.Chain operands operators)
 chain_is_written operands operators = ap IsWritten (sym (nodes.rolls-Chain operands operators)) ∙ written_roll (layer.Chain operands operators)
 

@@ -8,10 +8,9 @@ mod words;
 ghost use Rattle.std.specs.Prelude.{◌≡◌, ◌≤◌, ℕ, length, drop, Some, ◌⊎◌};
 ghost use Rattle.formula_parse.specs.Lexing.{token_at, number_at};
 
-pub(crate) use begun::begun_len;
-
 use super::faults::ParseFault;
 use super::tokens::Token;
+pub(crate) use begun::begun_len;
 use std::alloc::Global;
 
 /// The least number over the limit of numbers.

@@ -22,6 +22,7 @@ const CELLS: u64 = 65_536;
 const GREATEST: i64 = 999_999_999_999_999;
 /// The most calls, and the most calls and parentheses together, that may be open.
 const CALLS: usize = 64;
+
 const DEPTH: usize = 128;
 
 /// A chain that goes on: each of its operands is followed by an operator of one place of the grammar.
@@ -38,10 +39,7 @@ pub(crate) enum Opened {
     Formula,
     Parentheses,
     /// A call, and its arguments so far.
-    Call {
-        name: Name,
-        arguments: Items<Node>,
-    },
+    Call { name: Name, arguments: Items<Node> },
 }
 
 /// What stands open at a place of the text, and the chains that go on in it.

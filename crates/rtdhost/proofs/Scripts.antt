@@ -5,12 +5,12 @@ use Rattle.std.specs.Str.{IsUtf8}
 use Rattle.std.specs.Str.Lossy.{utf8_valid_len}
 use Rattle.std.proofs.lemmas.Bool.{le-ltb, eq-eqb}
 use Rattle.std.proofs.lemmas.Str.{utf8_valid_len-IsUtf8}
-use Rattle.formula_parse.specs.declared.trees.Term.{Term}
-use Rattle.formula_parse.specs.declared.faults.ParseFault.{ParseFault}
-use Rattle.formula_parse.specs.declared.faults.ParseFault.TheVariants as faults
-use Rattle.formula_parse.specs.Grammar.{formula_of}
-use Rattle.formula_parse.specs.Parsed.{parsed}
-use Rattle.formula_parse.proofs.ParseLaws.{parsed_formula}
+use Rattle.sum_formulas.specs.declared.trees.Term.{Term}
+use Rattle.sum_formulas.specs.declared.faults.ParseFault.{ParseFault}
+use Rattle.sum_formulas.specs.declared.faults.ParseFault.TheVariants as faults
+use Rattle.sum_formulas.specs.Grammar.{formula_of}
+use Rattle.sum_formulas.specs.Parsed.{parsed}
+use Rattle.sum_formulas.proofs.ParseLaws.{parsed_formula}
 use Rattle.rtdhost.specs.declared.script.Parsed.{Parsed}
 use Rattle.rtdhost.specs.declared.script.Parsed.TheVariants.{Empty}
 use Rattle.rtdhost.specs.declared.script.BadLine.{BadLine}

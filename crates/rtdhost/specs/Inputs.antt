@@ -8,9 +8,9 @@ use Rattle.cell_refs.specs.RefText.{cell_at}
 use Rattle.cell_values.specs.declared.values.Value.{Value}
 use Rattle.cell_values.specs.declared.values.Value.TheVariants.{Blank, Num as Number'}
 use Rattle.cell_values.specs.Value.{add_of}
-use Rattle.formula_parse.specs.declared.trees.Term.{Term}
-use Rattle.formula_parse.specs.declared.trees.Term.TheVariants.{Number, Reference}
-use Rattle.formula_parse.specs.Tree.{precedents}
+use Rattle.sum_formulas.specs.declared.trees.Term.{Term}
+use Rattle.sum_formulas.specs.declared.trees.Term.TheVariants.{Number, Reference}
+use Rattle.sum_formulas.specs.Tree.{precedents}
 use Rattle.workbook.specs.declared.contents.Content.{Content}
 use Rattle.workbook.specs.declared.contents.Content.TheVariants as contents
 use Rattle.workbook.specs.Book.{content_at, is_formula}

@@ -8,7 +8,7 @@ use Rattle.cell_refs.specs.declared.references.RefText.{RefText}
 use Rattle.cell_refs.specs.RefText.{cell_at}
 use Rattle.cell_refs.specs.Written.{reference_at}
 use Rattle.cell_values.specs.Word.{number_word}
-use Rattle.formula_parse.specs.Grammar.{formula_of}
+use Rattle.sum_formulas.specs.Grammar.{formula_of}
 use Rattle.workbook.specs.declared.contents.Content.{Content}
 use Rattle.workbook.specs.declared.contents.Content.TheVariants as contents
 use Rattle.workbook.specs.declared.commands.BeginKind.TheVariants.{Dirty}

@@ -13,7 +13,7 @@ ghost use Rattle.rtdhost.specs.Inputs.{known_input, known_formula, value_if_know
 
 use cell_refs::Cell;
 use cell_values::{Memory, Value, add};
-use formula_parse::Term;
+use sum_formulas::Term;
 use std::alloc::Global;
 use std::collections::{BTreeMap, BTreeSet};
 use workbook::{Book, Content};

@@ -3,14 +3,14 @@
 ghost use Rattle.std.specs.Prelude.{◌≡◌, Ok, Err, IfOk, OnOk, true, false, if◌then◌else◌, [], ◌∷◌, ◌++◌};
 ghost use Rattle.std.specs.List.{list_any};
 ghost use Rattle.cell_refs.specs.declared.grid.Cell.{Cell};
-ghost use Rattle.formula_parse.specs.Tree.{precedents};
+ghost use Rattle.sum_formulas.specs.Tree.{precedents};
 ghost use Rattle.workbook.specs.Book.{IsInOrder, is_formula, formula_cells};
 ghost use Rattle.workbook.specs.Stale.{is_among, is_stale};
 ghost use Rattle.rtdhost.specs.Marking.{is_hot, is_touched, AreStale, KeepsMarks, MarksTouched, IsMarkedOrNew, AreFormulas};
 
 use cell_refs::Cell;
 use cell_values::Memory;
-use formula_parse::Term;
+use sum_formulas::Term;
 use std::alloc::Global;
 use std::collections::BTreeSet;
 use workbook::{Book, Content};

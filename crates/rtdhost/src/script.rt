@@ -2,13 +2,13 @@
 
 ghost use Rattle.std.specs.Prelude.{◌≡◌, ◌≢◌, Some, None, Err, IfOk};
 ghost use Rattle.std.specs.Prelude.{option_map};
-ghost use Rattle.formula_parse.specs.Grammar.{formula_of};
+ghost use Rattle.sum_formulas.specs.Grammar.{formula_of};
 ghost use Rattle.rtdhost.specs.Script.{cell_of, content_of, set_said, word_said, words_said, line_said};
 
 use super::lines::MAX_LINE;
 use cell_refs::{Cell, read_ref};
 use cell_values::read_number_word;
-use formula_parse::{ParseFault, parse};
+use sum_formulas::{ParseFault, parse};
 use std::alloc::Global;
 use std::str;
 use workbook::{BeginKind, Command, Content, Form};

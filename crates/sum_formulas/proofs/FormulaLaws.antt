@@ -4,13 +4,13 @@ use Rattle.std.specs.List.{join_with_byte}
 use Rattle.std.proofs.lemmas.Bool.{and_parts, and_left, and_right, cases_Bool, cond-true, cond-false}
 use Rattle.std.proofs.lemmas.Option.{cond_some, option_and_then_some, same_Some}
 use Rattle.std.proofs.lemmas.List.Splits.{slice_split_none, slice_split_at, join_with_byte-slice_split, length-slice_split}
-use Rattle.formula_parse.specs.declared.trees.Term.{Term}
-use Rattle.formula_parse.specs.declared.viability.Progress.{Progress}
-use Rattle.formula_parse.specs.declared.viability.Progress.TheVariants.{FormulaStart, TermStart, Number, ColumnMark, Column, RowMark, Row}
-use Rattle.formula_parse.specs.Grammar.{IsTerm, IsSum, IsUnlimitedFormula, term_of, terms_of, pieces_of, unlimited_formula_of}
-use Rattle.formula_parse.specs.Progress.{progress_after, progress_within, is_whole}
-use Rattle.formula_parse.proofs.References.{within, chosen_some}
-use Rattle.formula_parse.proofs.TermLaws.{term_runs, term_from_run, term_of_is, term_of_from, no_plus, plus_free}
+use Rattle.sum_formulas.specs.declared.trees.Term.{Term}
+use Rattle.sum_formulas.specs.declared.viability.Progress.{Progress}
+use Rattle.sum_formulas.specs.declared.viability.Progress.TheVariants.{FormulaStart, TermStart, Number, ColumnMark, Column, RowMark, Row}
+use Rattle.sum_formulas.specs.Grammar.{IsTerm, IsSum, IsUnlimitedFormula, term_of, terms_of, pieces_of, unlimited_formula_of}
+use Rattle.sum_formulas.specs.Progress.{progress_after, progress_within, is_whole}
+use Rattle.sum_formulas.proofs.References.{within, chosen_some}
+use Rattle.sum_formulas.proofs.TermLaws.{term_runs, term_from_run, term_of_is, term_of_from, no_plus, plus_free}
 
 -- ---- piece by piece
 term_plus_free : (p : List ℕ) (t : Term) → IsTerm p t → All (λ b. eqb b 43 ≡ false) p

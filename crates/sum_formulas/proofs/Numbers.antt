@@ -6,10 +6,10 @@ use Rattle.std.specs.Str.Parse.{IsNumeral, ParsesUnsigned, digits_value}
 use Rattle.std.proofs.lemmas.Bool.{and_parts, and_from, cond-true, cond-false, cases_lt}
 use Rattle.std.proofs.lemmas.Bool.Decides.{nat_tests}
 use Rattle.std.proofs.lemmas.Str.Parse.{IsDigitsTest, IsNumeralModel, numerals_by_value, parse_digits}
-use Rattle.formula_parse.specs.declared.trees.Term.TheVariants.{Number}
-use Rattle.formula_parse.specs.declared.terms.TermFault.TheVariants.{TooLarge}
-use Rattle.formula_parse.specs.Grammar.{is_numeral, term_of}
-use Rattle.formula_parse.specs.Reading.{term_within}
+use Rattle.sum_formulas.specs.declared.trees.Term.TheVariants.{Number}
+use Rattle.sum_formulas.specs.declared.terms.TermFault.TheVariants.{TooLarge}
+use Rattle.sum_formulas.specs.Grammar.{is_numeral, term_of}
+use Rattle.sum_formulas.specs.Reading.{term_within}
 
 pub numeral_from : (piece : List ℕ) (r : Bool) → eqb (length piece) 0 ≡ false → r ≡ list_all is_ascii_digit piece → r ≡ is_numeral piece
 numeral_from [] r some all = cc

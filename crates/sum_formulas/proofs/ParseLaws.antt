@@ -8,17 +8,17 @@ use Rattle.std.specs.Option.{option_map_or}
 use Rattle.std.proofs.lemmas.Option.{cond_some, option_and_then_some, same_Some}
 use Rattle.std.proofs.lemmas.Int.{ints}
 use Rattle.std.proofs.lemmas.List.Elements.{All-nil, All-cons, All-head, All-tail}
-use Rattle.formula_parse.specs.declared.trees.Term.{Term}
-use Rattle.formula_parse.specs.declared.trees.Term.TheVariants as terms
-use Rattle.formula_parse.specs.declared.faults.ParseFault.{ParseFault}
-use Rattle.formula_parse.specs.declared.faults.ParseFault.TheVariants as faults
-use Rattle.formula_parse.specs.declared.viability.Progress.TheVariants.{FormulaStart, TermStart}
-use Rattle.formula_parse.specs.Grammar.{IsFormula, IsUnlimitedFormula, IsShort, IsWithinLimit, IsOverLimit, is_within_limit, is_too_long, within_limits, terms_of, pieces_of, unlimited_formula_of, formula_of}
-use Rattle.formula_parse.specs.Parsed.{IsSyntaxFault, IsNumberFault, IsSyntaxPlace, syntax_place, judged, parsed}
-use Rattle.formula_parse.specs.Progress.{progress_within, viable_len}
-use Rattle.formula_parse.specs.Reading.{terms_behind, sum_read}
-use Rattle.formula_parse.proofs.FormulaLaws.{unlimited_is, unlimited_from}
-use Rattle.formula_parse.proofs.Places.{place_is, syntax_place_is}
+use Rattle.sum_formulas.specs.declared.trees.Term.{Term}
+use Rattle.sum_formulas.specs.declared.trees.Term.TheVariants as terms
+use Rattle.sum_formulas.specs.declared.faults.ParseFault.{ParseFault}
+use Rattle.sum_formulas.specs.declared.faults.ParseFault.TheVariants as faults
+use Rattle.sum_formulas.specs.declared.viability.Progress.TheVariants.{FormulaStart, TermStart}
+use Rattle.sum_formulas.specs.Grammar.{IsFormula, IsUnlimitedFormula, IsShort, IsWithinLimit, IsOverLimit, is_within_limit, is_too_long, within_limits, terms_of, pieces_of, unlimited_formula_of, formula_of}
+use Rattle.sum_formulas.specs.Parsed.{IsSyntaxFault, IsNumberFault, IsSyntaxPlace, syntax_place, judged, parsed}
+use Rattle.sum_formulas.specs.Progress.{progress_within, viable_len}
+use Rattle.sum_formulas.specs.Reading.{terms_behind, sum_read}
+use Rattle.sum_formulas.proofs.FormulaLaws.{unlimited_is, unlimited_from}
+use Rattle.sum_formulas.proofs.Places.{place_is, syntax_place_is}
 
 -- ---- limits
 within_is : (t : Term) → is_within_limit t ≡ true → IsWithinLimit t

@@ -3,13 +3,13 @@ use Rattle.std.proofs.Common.{◌≡◌, ℕ, ◌+◌, ◌≤◌, zero, suc, Boo
 use Rattle.std.specs.Option.{option_map_or}
 use Rattle.std.proofs.lemmas.Bool.{cases_Bool, cond-true, cond-false, both_ways, cases_eq, or_left, or_right, or_cases}
 use Rattle.std.proofs.lemmas.Option.{option_and_then_some, same_Some}
-use Rattle.formula_parse.specs.declared.trees.Term.{Term}
-use Rattle.formula_parse.specs.declared.viability.Progress.{Progress}
-use Rattle.formula_parse.specs.declared.viability.Progress.TheVariants.{FormulaStart}
-use Rattle.formula_parse.specs.Grammar.{IsUnlimitedFormula, unlimited_formula_of}
-use Rattle.formula_parse.specs.Parsed.{IsViable, IsSyntaxPlace, is_viable, longest_front, syntax_place}
-use Rattle.formula_parse.specs.Progress.{progress_after, viable_len}
-use Rattle.formula_parse.proofs.FormulaLaws.{over, Ends, completed, formula_runs, formula_from_run, unlimited_is, unlimited_from}
+use Rattle.sum_formulas.specs.declared.trees.Term.{Term}
+use Rattle.sum_formulas.specs.declared.viability.Progress.{Progress}
+use Rattle.sum_formulas.specs.declared.viability.Progress.TheVariants.{FormulaStart}
+use Rattle.sum_formulas.specs.Grammar.{IsUnlimitedFormula, unlimited_formula_of}
+use Rattle.sum_formulas.specs.Parsed.{IsViable, IsSyntaxPlace, is_viable, longest_front, syntax_place}
+use Rattle.sum_formulas.specs.Progress.{progress_after, viable_len}
+use Rattle.sum_formulas.proofs.FormulaLaws.{over, Ends, completed, formula_runs, formula_from_run, unlimited_is, unlimited_from}
 
 -- ---- fronts
 front_lives : (front rest : List ℕ) (s e : Progress) → over s (front ++ rest) ≡ Some e → (t : Progress) × (over s front ≡ Some t) × (over t rest ≡ Some e)

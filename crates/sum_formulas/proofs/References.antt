@@ -12,9 +12,9 @@ use Rattle.std.proofs.lemmas.Option.{cond_some, option_and_then_some, same_Some}
 use Rattle.cell_refs.specs.declared.references.RefText.{RefText}
 use Rattle.cell_refs.specs.Reading.{number_at, mark_at, column_at, column_number, rest_after, sheet_number_at, sheet_at, reference_in, ◌>>=◌}
 use Rattle.cell_refs.specs.Written.{capitals}
-use Rattle.formula_parse.specs.declared.viability.Progress.{Progress}
-use Rattle.formula_parse.specs.declared.viability.Progress.TheVariants.{TermStart, Number, ColumnMark, Column, RowMark, Row}
-use Rattle.formula_parse.specs.Progress.{column_after, row_after, progress_within}
+use Rattle.sum_formulas.specs.declared.viability.Progress.{Progress}
+use Rattle.sum_formulas.specs.declared.viability.Progress.TheVariants.{TermStart, Number, ColumnMark, Column, RowMark, Row}
+use Rattle.sum_formulas.specs.Progress.{column_after, row_after, progress_within}
 
 -- the progress with all the bytes of a piece of one term
 abbrev pub within : Progress → List ℕ → Option Progress

@@ -6,18 +6,18 @@ use Rattle.std.proofs.lemmas.Bool.{and_parts, and_from, and_left, and_right, not
 use Rattle.std.proofs.lemmas.Option.{option_and_then_some, same_Some}
 use Rattle.std.proofs.lemmas.List.Elements.{All-nil, All-push}
 use Rattle.std.proofs.lemmas.List.Splits.{join_with_byte-slice_split, slice_split-cons_yes, slice_split-cons_no}
-use Rattle.formula_parse.specs.declared.trees.Term.{Term}
-use Rattle.formula_parse.specs.declared.faults.ParseFault.TheVariants as faults
-use Rattle.formula_parse.specs.declared.terms.TermFault.TheVariants.{NoTerm, TooLarge}
-use Rattle.formula_parse.specs.declared.viability.Progress.{Progress}
-use Rattle.formula_parse.specs.declared.viability.Progress.TheVariants.{TermStart}
-use Rattle.formula_parse.specs.Grammar.{IsTerm, IsSum, is_within_limit, term_of, terms_of, pieces_of}
-use Rattle.formula_parse.specs.Progress.{progress_after, progress_within, is_whole, viable_len}
-use Rattle.formula_parse.specs.Reading.{term_within, terms_behind, sum_read}
-use Rattle.formula_parse.specs.Tree.{IsKept, IsTree}
-use Rattle.formula_parse.proofs.FormulaLaws.{sum_from_pieces}
-use Rattle.formula_parse.proofs.References.{within}
-use Rattle.formula_parse.proofs.TermLaws.{term_runs, term_from_run, term_of_is, term_of_from, no_plus_within}
+use Rattle.sum_formulas.specs.declared.trees.Term.{Term}
+use Rattle.sum_formulas.specs.declared.faults.ParseFault.TheVariants as faults
+use Rattle.sum_formulas.specs.declared.terms.TermFault.TheVariants.{NoTerm, TooLarge}
+use Rattle.sum_formulas.specs.declared.viability.Progress.{Progress}
+use Rattle.sum_formulas.specs.declared.viability.Progress.TheVariants.{TermStart}
+use Rattle.sum_formulas.specs.Grammar.{IsTerm, IsSum, is_within_limit, term_of, terms_of, pieces_of}
+use Rattle.sum_formulas.specs.Progress.{progress_after, progress_within, is_whole, viable_len}
+use Rattle.sum_formulas.specs.Reading.{term_within, terms_behind, sum_read}
+use Rattle.sum_formulas.specs.Tree.{IsKept, IsTree}
+use Rattle.sum_formulas.proofs.FormulaLaws.{sum_from_pieces}
+use Rattle.sum_formulas.proofs.References.{within}
+use Rattle.sum_formulas.proofs.TermLaws.{term_runs, term_from_run, term_of_is, term_of_from, no_plus_within}
 
 -- ---- pieces have no `+`
 abbrev is_free : List ℕ → Bool

@@ -9,14 +9,14 @@ use Rattle.std.proofs.lemmas.List.Elements.{All-nil, All-cons}
 use Rattle.cell_refs.specs.declared.references.RefText.{RefText}
 use Rattle.cell_refs.specs.Reading.{reference_in, sheet_at, mark_at, column_at}
 use Rattle.cell_refs.specs.Written.{capitals, reference_at}
-use Rattle.formula_parse.specs.declared.trees.Term.{Term}
-use Rattle.formula_parse.specs.declared.trees.Term.TheVariants as terms
-use Rattle.formula_parse.specs.declared.viability.Progress.{Progress}
-use Rattle.formula_parse.specs.declared.viability.Progress.TheVariants.{FormulaStart, TermStart, Number, ColumnMark, Column, RowMark, Row}
-use Rattle.formula_parse.specs.Grammar.{IsTerm, is_numeral, term_of, whole_reference}
-use Rattle.formula_parse.specs.Progress.{column_after, row_after, progress_within, is_whole}
-use Rattle.formula_parse.proofs.Numbers.{numeral_is, numeral_test, numeral_parts}
-use Rattle.formula_parse.proofs.References.{within, reference_forth, reference_back, number_stays}
+use Rattle.sum_formulas.specs.declared.trees.Term.{Term}
+use Rattle.sum_formulas.specs.declared.trees.Term.TheVariants as terms
+use Rattle.sum_formulas.specs.declared.viability.Progress.{Progress}
+use Rattle.sum_formulas.specs.declared.viability.Progress.TheVariants.{FormulaStart, TermStart, Number, ColumnMark, Column, RowMark, Row}
+use Rattle.sum_formulas.specs.Grammar.{IsTerm, is_numeral, term_of, whole_reference}
+use Rattle.sum_formulas.specs.Progress.{column_after, row_after, progress_within, is_whole}
+use Rattle.sum_formulas.proofs.Numbers.{numeral_is, numeral_test, numeral_parts}
+use Rattle.sum_formulas.proofs.References.{within, reference_forth, reference_back, number_stays}
 
 -- ---- references
 no_length : (xs : List ℕ) → length xs ≡ 0 → xs ≡ []

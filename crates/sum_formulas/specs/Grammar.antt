@@ -6,8 +6,8 @@ use Rattle.std.specs.Str.{chars}
 use Rattle.std.specs.Str.Parse.{IsNumeral, digits_value}
 use Rattle.cell_refs.specs.declared.references.RefText.{RefText}
 use Rattle.cell_refs.specs.Written.{reference_at}
-use Rattle.formula_parse.specs.declared.trees.Term.{Term}
-use Rattle.formula_parse.specs.declared.trees.Term.TheVariants.{Number, Reference}
+use Rattle.sum_formulas.specs.declared.trees.Term.{Term}
+use Rattle.sum_formulas.specs.declared.trees.Term.TheVariants.{Number, Reference}
 
 -- A piece of text writes a term: digits write a number of any size, and a reference without a sheet is the whole piece.
 abbrev pub IsTerm : List ℕ → Term → Type 0

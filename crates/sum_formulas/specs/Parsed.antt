@@ -1,10 +1,10 @@
 -- What parsing a text answers.
 use Rattle.std.specs.Prelude.{ℕ, zero, suc, ◌≤◌, Bool, if◌then◌else◌, List, [], ◌∷◌, ◌++◌, length, take, Any, Option, Some, None, is_some, Result, Ok, Err, codes}
 use Rattle.std.specs.List.{list_any, list_all}
-use Rattle.formula_parse.specs.declared.trees.Term.{Term}
-use Rattle.formula_parse.specs.declared.faults.ParseFault.{ParseFault}
-use Rattle.formula_parse.specs.declared.faults.ParseFault.TheVariants as faults
-use Rattle.formula_parse.specs.Grammar.{IsShort, IsUnlimitedFormula, IsOverLimit, unlimited_formula_of, is_too_long, is_within_limit}
+use Rattle.sum_formulas.specs.declared.trees.Term.{Term}
+use Rattle.sum_formulas.specs.declared.faults.ParseFault.{ParseFault}
+use Rattle.sum_formulas.specs.declared.faults.ParseFault.TheVariants as faults
+use Rattle.sum_formulas.specs.Grammar.{IsShort, IsUnlimitedFormula, IsOverLimit, unlimited_formula_of, is_too_long, is_within_limit}
 
 -- some formula, of numbers of any size, begins with these bytes
 abbrev pub IsViable : List ℕ → Type 0

@@ -2,8 +2,8 @@
 use Rattle.std.specs.Prelude.{ℕ, ◌+◌, ◌-◌, ◌*◌, Bool, true, false, ◌&&◌, if◌then◌else◌, ◌==◌, nat_lt, nat_le, List, [], ◌∷◌, Option, Some, None}
 use Rattle.std.specs.Char.{is_ascii_digit, is_ascii_alphabetic, to_ascii_uppercase}
 use Rattle.std.specs.Option.{option_map_or}
-use Rattle.formula_parse.specs.declared.viability.Progress.{Progress}
-use Rattle.formula_parse.specs.declared.viability.Progress.TheVariants.{FormulaStart, TermStart, Number, ColumnMark, Column, RowMark, Row}
+use Rattle.sum_formulas.specs.declared.viability.Progress.{Progress}
+use Rattle.sum_formulas.specs.declared.viability.Progress.TheVariants.{FormulaStart, TermStart, Number, ColumnMark, Column, RowMark, Row}
 
 -- a further letter of a column inside the grid
 abbrev pub column_after : ℕ → ℕ → Option Progress

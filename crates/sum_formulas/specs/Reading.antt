@@ -1,14 +1,14 @@
 -- What the readers of terms and sums answer.
 use Rattle.std.specs.Prelude.{ℕ, ◌+◌, Bool, false, not, ◌&&◌, if◌then◌else◌, List, [], ◌++◌, Option, Some, None, Result, Ok, Err}
 use Rattle.std.specs.List.{list_all}
-use Rattle.formula_parse.specs.declared.faults.ParseFault.{ParseFault}
-use Rattle.formula_parse.specs.declared.faults.ParseFault.TheVariants as faults
-use Rattle.formula_parse.specs.declared.terms.TermFault.{TermFault}
-use Rattle.formula_parse.specs.declared.terms.TermFault.TheVariants.{NoTerm, TooLarge}
-use Rattle.formula_parse.specs.declared.trees.Term.{Term}
-use Rattle.formula_parse.specs.declared.viability.Progress.TheVariants as progress
-use Rattle.formula_parse.specs.Grammar.{is_within_limit, terms_of, pieces_of}
-use Rattle.formula_parse.specs.Progress.{viable_len}
+use Rattle.sum_formulas.specs.declared.faults.ParseFault.{ParseFault}
+use Rattle.sum_formulas.specs.declared.faults.ParseFault.TheVariants as faults
+use Rattle.sum_formulas.specs.declared.terms.TermFault.{TermFault}
+use Rattle.sum_formulas.specs.declared.terms.TermFault.TheVariants.{NoTerm, TooLarge}
+use Rattle.sum_formulas.specs.declared.trees.Term.{Term}
+use Rattle.sum_formulas.specs.declared.viability.Progress.TheVariants as progress
+use Rattle.sum_formulas.specs.Grammar.{is_within_limit, terms_of, pieces_of}
+use Rattle.sum_formulas.specs.Progress.{viable_len}
 
 -- the term that a piece of text writes, where its number is within the limit
 abbrev pub term_within : Option Term → Result Term TermFault

@@ -3,8 +3,8 @@ use Rattle.std.specs.Prelude.{◌≡◌, ℕ, ◌<◌, pos, ◌≤ℤ◌, List, 
 use Rattle.cell_refs.specs.declared.grid.Cell.{Cell}
 use Rattle.cell_refs.specs.Cell.{IsCell}
 use Rattle.cell_refs.specs.RefText.{cell_at}
-use Rattle.formula_parse.specs.declared.trees.Term.{Term}
-use Rattle.formula_parse.specs.declared.trees.Term.TheVariants.{Number, Reference}
+use Rattle.sum_formulas.specs.declared.trees.Term.{Term}
+use Rattle.sum_formulas.specs.declared.trees.Term.TheVariants.{Number, Reference}
 
 -- a number from 0 to 999,999,999,999,999, or a reference without a sheet to a place inside the grid
 abbrev pub IsKept : Term → Type 0

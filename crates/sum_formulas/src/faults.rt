@@ -20,7 +20,7 @@ pub enum ParseFault {
 
 impl From<AllocError> for ParseFault {
     ghost use Rattle.std.specs.Prelude.{◌≡◌};
-    ghost use Rattle.formula_parse.specs.declared.faults.ParseFault.TheVariants.{Memory};
+    ghost use Rattle.sum_formulas.specs.declared.faults.ParseFault.TheVariants.{Memory};
 
     ghost from_gives = { λ _ fault. fault ≡ Memory };
 
@@ -31,7 +31,7 @@ impl From<AllocError> for ParseFault {
 
 impl<T: Drop> From<AllocFailed<T>> for ParseFault {
     ghost use Rattle.std.specs.Prelude.{◌≡◌};
-    ghost use Rattle.formula_parse.specs.declared.faults.ParseFault.TheVariants.{Memory};
+    ghost use Rattle.sum_formulas.specs.declared.faults.ParseFault.TheVariants.{Memory};
 
     ghost from_gives = { λ _ fault. fault ≡ Memory };
 

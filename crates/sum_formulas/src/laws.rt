@@ -2,9 +2,9 @@
 
 ghost use Rattle.std.specs.Prelude.{◌≡◌, ℕ, ◌↔◌, List, Some, true};
 ghost use Rattle.std.specs.Result.{result_ok};
-ghost use Rattle.formula_parse.specs.declared.trees.Term.{Term};
-ghost use Rattle.formula_parse.specs.Grammar.{IsFormula, IsUnlimitedFormula, formula_of, unlimited_formula_of};
-ghost use Rattle.formula_parse.specs.Parsed.{IsViable, IsSyntaxPlace, is_viable, syntax_place, parsed};
+ghost use Rattle.sum_formulas.specs.declared.trees.Term.{Term};
+ghost use Rattle.sum_formulas.specs.Grammar.{IsFormula, IsUnlimitedFormula, formula_of, unlimited_formula_of};
+ghost use Rattle.sum_formulas.specs.Parsed.{IsViable, IsSyntaxPlace, is_viable, syntax_place, parsed};
 
 /// Reading a text gives exactly the terms that the grammar lets it write.
 pub fn reading_gives_what_is_written()

@@ -1,7 +1,7 @@
 ghost use Rattle.std.specs.Prelude.{◌≡◌, ◌⊎◌, ◌↔◌, ◌<◌, ℕ, length, Some, IfOk};
 ghost use Rattle.std.specs.Str.{chars};
-ghost use Rattle.formula_parse.specs.Grammar.{IsFormula, formula_of, is_too_long, unlimited_formula_of};
-ghost use Rattle.formula_parse.specs.Parsed.{IsSyntaxFault, IsNumberFault, judged, parsed};
+ghost use Rattle.sum_formulas.specs.Grammar.{IsFormula, formula_of, is_too_long, unlimited_formula_of};
+ghost use Rattle.sum_formulas.specs.Parsed.{IsSyntaxFault, IsNumberFault, judged, parsed};
 
 use super::faults::ParseFault;
 use super::sums::read_sum;

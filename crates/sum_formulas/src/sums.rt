@@ -1,5 +1,5 @@
 ghost use Rattle.std.specs.Prelude.{◌≡◌, ◌⊎◌, Err};
-ghost use Rattle.formula_parse.specs.Reading.{sum_read};
+ghost use Rattle.sum_formulas.specs.Reading.{sum_read};
 
 use super::faults::ParseFault;
 use super::terms::{TermFault, read_term};

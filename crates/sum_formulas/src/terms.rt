@@ -1,7 +1,7 @@
 ghost use Rattle.std.specs.Prelude.{◌≡◌, true, IfOk, IfSome};
-ghost use Rattle.formula_parse.specs.Grammar.{is_numeral, term_of, whole_reference};
-ghost use Rattle.formula_parse.specs.Reading.{term_within};
-ghost use Rattle.formula_parse.specs.Tree.{IsKept};
+ghost use Rattle.sum_formulas.specs.Grammar.{is_numeral, term_of, whole_reference};
+ghost use Rattle.sum_formulas.specs.Reading.{term_within};
+ghost use Rattle.sum_formulas.specs.Tree.{IsKept};
 ghost use Rattle.cell_refs.specs.Written.{reference_at};
 
 use super::trees::Term;

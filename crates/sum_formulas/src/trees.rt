@@ -24,11 +24,11 @@ pub struct Tree {
 impl Model for Tree {
     ghost use Rattle.std.specs.Prelude.{List};
     ghost use Rattle.std.specs.Arc.{arc_slice_items};
-    ghost use Rattle.formula_parse.specs.declared.trees.Term.{Term};
+    ghost use Rattle.sum_formulas.specs.declared.trees.Term.{Term};
 
     ghost Value = { List Term };
 
-    ghost use Rattle.formula_parse.specs.Tree.{IsTree};
+    ghost use Rattle.sum_formulas.specs.Tree.{IsTree};
 
     ghost view = { λ t. arc_slice_items t.shared };
 
@@ -36,7 +36,7 @@ impl Model for Tree {
 }
 
 impl Tree {
-    ghost use Rattle.formula_parse.specs.Tree.{IsTree};
+    ghost use Rattle.sum_formulas.specs.Tree.{IsTree};
 
     pub(crate) fn of(terms: Vec<Term>) -> Result<Tree, AllocError>
         requires { IsTree terms.items }

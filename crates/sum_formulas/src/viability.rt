@@ -1,5 +1,5 @@
 ghost use Rattle.std.specs.Prelude.{◌≡◌, ◌+◌, ◌*◌, ◌^◌, ◌<◌};
-ghost use Rattle.formula_parse.specs.Progress.{progress_after, progress_within, is_whole, column_after, row_after, viable_len};
+ghost use Rattle.sum_formulas.specs.Progress.{progress_after, progress_within, is_whole, column_after, row_after, viable_len};
 
 /// What the bytes so far have come to, where some formula begins with them.
 #[derive(Clone, Copy, Debug, PartialEq, Eq)]

@@ -6,8 +6,8 @@ use Rattle.cell_refs.specs.RefText.{cell_at}
 use Rattle.cell_values.specs.declared.values.Value.{Value}
 use Rattle.cell_values.specs.declared.values.Value.TheVariants as values
 use Rattle.cell_values.specs.Value.{add_of, final_of}
-use Rattle.formula_parse.specs.declared.trees.Term.{Term}
-use Rattle.formula_parse.specs.declared.trees.Term.TheVariants.{Number, Reference}
+use Rattle.sum_formulas.specs.declared.trees.Term.{Term}
+use Rattle.sum_formulas.specs.declared.trees.Term.TheVariants.{Number, Reference}
 
 -- the value of a term, where the formula stands on the sheet home
 abbrev pub term_value : ℕ → (Cell → Value) → Term → Value

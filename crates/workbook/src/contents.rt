@@ -1,6 +1,6 @@
 ghost use Rattle.std.specs.Prelude.{◌≡◌, Some};
 
-use formula_parse::Tree;
+use sum_formulas::Tree;
 
 /// The content of a cell: a constant or a formula.
 #[derive(Drop)]

@@ -3,7 +3,7 @@ use super::contents::Content;
 use super::replies::SheetCells;
 use cell_refs::Cell;
 use cell_values::Value;
-use formula_parse::parse;
+use sum_formulas::parse;
 use std::test::Fail;
 
 fn cell(sheet: u8, row: u32, col: u16) -> Cell {

@@ -11,6 +11,7 @@ use cell_values::ErrorKind;
 const NAME: usize = 255;
 /// The last column and the last row of the grid.
 const COLUMNS: u64 = 16_384;
+
 const ROWS: u64 = 1_048_576;
 /// The number of sheets.
 const SHEETS: u64 = 64;
@@ -21,7 +22,11 @@ pub(crate) fn begun_len(text: &[u8]) -> usize
     ensures { result ≡ begun_len text.now }
 {
     match text.first() {
-        Some(b'"') => 1 + text[1..].iter().take_while(|byte| !byte.is_ascii_control()).count(),
+        Some(b'"') => 1
+            + text[1..]
+                .iter()
+                .take_while(|byte| !byte.is_ascii_control())
+                .count(),
         Some(b'#') => error_begun(text),
         Some(byte) if byte.is_ascii_alphabetic() || *byte == b'$' => word_begun(text),
         _ => 0,
@@ -53,14 +58,18 @@ fn common_len(word: &[u8], text: &[u8]) -> usize
     ensures { result ≡ common_len word.now (capitals text.now) }
 {
     let pairs = word.iter().zip(text.iter());
-    pairs.take_while(|(a, b)| **a == b.to_ascii_uppercase()).count()
+    pairs
+        .take_while(|(a, b)| **a == b.to_ascii_uppercase())
+        .count()
 }
 
 /// How much of the text a call, a boolean, a reference or an area begins with.
 fn word_begun(text: &[u8]) -> usize
     ensures { result ≡ word_begun text.now }
 {
-    name_begun(text).max(reference_begun(text)).max(corner_begun(text))
+    name_begun(text)
+        .max(reference_begun(text))
+        .max(corner_begun(text))
 }
 
 fn name_begun(text: &[u8]) -> usize

@@ -134,7 +134,9 @@ fn chained(
     ensures { IfOk result (λ next. next ≡ chained operator (operand, chain ∷ rest)) }
 {
     if chain.place() != operator.place() {
-        return rest.with(chain)?.with(OpenChain::new(alloc, operand, operator)?);
+        return rest
+            .with(chain)?
+            .with(OpenChain::new(alloc, operand, operator)?);
     }
     let OpenChain {
         mut operands,

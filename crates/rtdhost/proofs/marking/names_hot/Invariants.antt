@@ -1,6 +1,6 @@
 use Rattle.std.proofs.Common.{◌≡◌, drop}
 use Rattle.std.specs.List.{list_any}
-use Rattle.formula_parse.specs.Tree.{precedents}
+use Rattle.sum_formulas.specs.Tree.{precedents}
 use Rattle.rtdhost.specs.Marking.{is_hot}
 use Rattle.rtdhost.proofs.marking.names_hot.Given as goal
 

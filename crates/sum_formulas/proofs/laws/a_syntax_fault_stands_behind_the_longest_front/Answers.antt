@@ -1,6 +1,6 @@
-use Rattle.formula_parse.proofs.ParseLaws.{syntax_place_law}
-use Rattle.formula_parse.proofs.Places.{test_viable, viable_test}
-use Rattle.formula_parse.proofs.laws.a_syntax_fault_stands_behind_the_longest_front.Goals as goal
+use Rattle.sum_formulas.proofs.ParseLaws.{syntax_place_law}
+use Rattle.sum_formulas.proofs.Places.{test_viable, viable_test}
+use Rattle.sum_formulas.proofs.laws.a_syntax_fault_stands_behind_the_longest_front.Goals as goal
 
 pub returns : goal.returns
 returns c = record {

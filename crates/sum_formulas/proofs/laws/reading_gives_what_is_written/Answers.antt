@@ -1,6 +1,6 @@
-use Rattle.formula_parse.proofs.FormulaLaws.{unlimited_is, unlimited_from}
-use Rattle.formula_parse.proofs.ParseLaws.{formula_forth, formula_back, parsed_formula}
-use Rattle.formula_parse.proofs.laws.reading_gives_what_is_written.Goals as goal
+use Rattle.sum_formulas.proofs.FormulaLaws.{unlimited_is, unlimited_from}
+use Rattle.sum_formulas.proofs.ParseLaws.{formula_forth, formula_back, parsed_formula}
+use Rattle.sum_formulas.proofs.laws.reading_gives_what_is_written.Goals as goal
 
 pub returns : goal.returns
 returns c = record {

@@ -1,7 +1,7 @@
 use Rattle.std.proofs.Common.{ltb, ap}
 use Rattle.std.proofs.lemmas.Iterator.{YieldsList-from_chars}
 use Rattle.std.proofs.lemmas.Iterator.Consumers.{count_from_yields_List}
-use Rattle.formula_parse.proofs.parser.has_too_many_characters.Goals as goal
+use Rattle.sum_formulas.proofs.parser.has_too_many_characters.Goals as goal
 
 pub returns : goal.returns
 returns c =

@@ -1,6 +1,6 @@
 use Rattle.std.proofs.Common.{sym, ◌∙◌}
-use Rattle.formula_parse.proofs.ParseLaws.{short_gives, ok_clause, read_clause, long_clause, syntax_clause, number_clause}
-use Rattle.formula_parse.proofs.parser.parse.Goals as goal
+use Rattle.sum_formulas.proofs.ParseLaws.{short_gives, ok_clause, read_clause, long_clause, syntax_clause, number_clause}
+use Rattle.sum_formulas.proofs.parser.parse.Goals as goal
 
 pub returns : goal.returns
 returns c =

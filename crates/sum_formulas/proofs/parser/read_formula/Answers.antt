@@ -1,8 +1,8 @@
 use Rattle.std.proofs.Common.{inl, inr, ⊎_elim, ◌∙◌, lit<}
 use Rattle.std.proofs.lemmas.Option.{MatchOption-at_some, MatchOption-at_none}
 use Rattle.std.proofs.lemmas.Str.Pattern.{strip_prefix_char}
-use Rattle.formula_parse.proofs.ParseLaws.{sum_judged, no_sign_judged}
-use Rattle.formula_parse.proofs.parser.read_formula.Goals as goal
+use Rattle.sum_formulas.proofs.ParseLaws.{sum_judged, no_sign_judged}
+use Rattle.sum_formulas.proofs.parser.read_formula.Goals as goal
 
 pub returns-in-Some : goal.returns-in-Some
 returns-in-Some c =

@@ -2,15 +2,15 @@ use Rattle.std.proofs.Common.{◌≡◌, ◌+◌, length, arith, lit<, inr, ap, 
 use Rattle.std.proofs.lemmas.Iterator.Splits.{YieldsList-from_str_split}
 use Rattle.std.proofs.lemmas.Iterator.Consumers.{YieldsList-at, YieldsList-turn, YieldsList-end}
 use Rattle.std.proofs.lemmas.List.{length_push}
-use Rattle.formula_parse.specs.Grammar.{term_of}
-use Rattle.formula_parse.specs.Progress.{viable_len}
-use Rattle.formula_parse.specs.Reading.{term_within}
-use Rattle.formula_parse.specs.declared.terms.TermFault.TheVariants.{NoTerm, TooLarge}
-use Rattle.formula_parse.specs.declared.viability.Progress.TheVariants.{TermStart}
-use Rattle.formula_parse.specs.declared.faults.ParseFault.TheVariants as faults
-use Rattle.formula_parse.proofs.SumLaws.{HasRead, read_none, turn, fault_is, piece_fits, viable_short, reads_ok, reads_large, read_over, read_all, tree_is}
-use Rattle.formula_parse.proofs.sums.read_sum.Goals as goal
-use Rattle.formula_parse.proofs.sums.read_sum.Goals.{in-Ok+in_ok-push-in-Ok, in-Err-TooLarge}
+use Rattle.sum_formulas.specs.Grammar.{term_of}
+use Rattle.sum_formulas.specs.Progress.{viable_len}
+use Rattle.sum_formulas.specs.Reading.{term_within}
+use Rattle.sum_formulas.specs.declared.terms.TermFault.TheVariants.{NoTerm, TooLarge}
+use Rattle.sum_formulas.specs.declared.viability.Progress.TheVariants.{TermStart}
+use Rattle.sum_formulas.specs.declared.faults.ParseFault.TheVariants as faults
+use Rattle.sum_formulas.proofs.SumLaws.{HasRead, read_none, turn, fault_is, piece_fits, viable_short, reads_ok, reads_large, read_over, read_all, tree_is}
+use Rattle.sum_formulas.proofs.sums.read_sum.Goals as goal
+use Rattle.sum_formulas.proofs.sums.read_sum.Goals.{in-Ok+in_ok-push-in-Ok, in-Err-TooLarge}
 
 pub loop-piece-init : goal.loop-piece-init
 loop-piece-init c = (tt, tt, rw c.new-terms.ensures.items (read_none c.args.sum.now))

@@ -1,6 +1,6 @@
 use Rattle.std.proofs.Common.{length}
-use Rattle.formula_parse.proofs.SumLaws.{HasRead}
-use Rattle.formula_parse.proofs.sums.read_sum.Given as goal
+use Rattle.sum_formulas.proofs.SumLaws.{HasRead}
+use Rattle.sum_formulas.proofs.sums.read_sum.Given as goal
 
 abbrev pub invariant-loop-piece : goal.invariant-loop-piece
 invariant-loop-piece l =

@@ -2,8 +2,8 @@ use Rattle.std.proofs.Common.{rules, tests, sym, ◌∙◌}
 use Rattle.std.specs.Char.{is_ascii_digit}
 use Rattle.std.proofs.lemmas.Iterator.{YieldsList-from_slice}
 use Rattle.std.proofs.lemmas.Iterator.Search.{all_from_yields_List}
-use Rattle.formula_parse.proofs.Numbers.{numeral_from}
-use Rattle.formula_parse.proofs.terms.is_numeral.Goals as goal
+use Rattle.sum_formulas.proofs.Numbers.{numeral_from}
+use Rattle.sum_formulas.proofs.terms.is_numeral.Goals as goal
 
 pub returns-then-not-is_empty : goal.returns-then-not-is_empty
 returns-then-not-is_empty c =

@@ -1,6 +1,6 @@
 use Rattle.std.proofs.lemmas.Result.{OkIff-at_err}
-use Rattle.formula_parse.proofs.Numbers.{numeral_parses, numeral_parts, large, too_large}
-use Rattle.formula_parse.proofs.terms.read_number.Goals as goal
+use Rattle.sum_formulas.proofs.Numbers.{numeral_parses, numeral_parts, large, too_large}
+use Rattle.sum_formulas.proofs.terms.read_number.Goals as goal
 
 pub returns-in-Err-clause-value : goal.returns-in-Err-clause-value
 returns-in-Err-clause-value c =

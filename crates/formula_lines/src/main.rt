@@ -1,0 +1,48 @@
+//! Reads formulas, one a line, and prints how each reads: its canonical text, or the fault that it has.
+//! All of them are kept to the end, so that what they hold can be measured.
+#![tactic(auto)]
+
+use formula_parse::{ParseFault, Tree, parse, print};
+use std::alloc::Global;
+use std::io;
+
+/// The canonical text of a formula.
+fn canonical(alloc: Global, tree: &Tree) -> io::Result<String> {
+    let mut out = Vec::new(alloc);
+    if print(tree, &mut out).is_err() {
+        return Err(io::Error::from(io::ErrorKind::OutOfMemory));
+    }
+    String::from_utf8(out).map_err(|_| io::Error::from(io::ErrorKind::InvalidData))
+}
+
+/// The word of a fault.
+fn word(fault: ParseFault) -> &'static str {
+    match fault {
+        ParseFault::Memory => "memory",
+        ParseFault::TooLong => "long",
+        ParseFault::TooDeep => "deep",
+        ParseFault::Syntax(_) => "syntax",
+        ParseFault::BadRange => "range",
+        ParseFault::NumberTooLarge => "number",
+    }
+}
+
+fn main(rt: HostRuntime) -> io::Result<()> {
+    let mut trees = Vec::new(rt.alloc());
+    for line in rt.lines(rt.alloc()) {
+        match parse(rt.alloc(), line?.as_str()) {
+            Ok(tree) => {
+                let text = canonical(rt.alloc(), &tree)?;
+                println!(rt; "{text}")?;
+                trees.push(tree)?;
+            }
+            Err(ParseFault::Syntax(place)) => println!(rt; "bad syntax {place}")?,
+            Err(fault) => {
+                let word = word(fault);
+                println!(rt; "bad {word}")?;
+            }
+        }
+    }
+    let count = trees.len();
+    println!(rt; "formulas {count}")
+}
