@@ -1,7 +1,7 @@
 -- How much of a text an area begins with.
-use Rattle.std.proofs.Common.{◌≡◌, ℕ, ◌+◌, ◌-◌, ◌<◌, ◌≤◌, zero, suc, Bool, true, false, cond, ◌&&◌, eqb, nat_lt, List, [], ◌∷◌, ◌++◌, length, take, drop, slice_index, Option, Some, None, refl, sym, ap, subst, ◌∙◌, arith, ◌⊎◌, inl, inr, ⊎_elim, ltb-true}
+use Rattle.std.proofs.Common.{◌≡◌, ℕ, ◌+◌, ◌<◌, ◌≤◌, zero, suc, eqb, nat_lt, List, [], ◌∷◌, ◌++◌, length, take, drop, Option, Some, None, refl, sym, ap, ◌∙◌, arith, ◌⊎◌, inl, inr, ⊎_elim, ltb-true}
 use Rattle.std.proofs.lemmas.Bool.{cases_Bool, cond-true, cond-false, and_parts}
-use Rattle.std.proofs.lemmas.List.{length-append, length-drop, append_assoc, append-nil}
+use Rattle.std.proofs.lemmas.List.{length-drop, append_assoc, append-nil}
 use Rattle.std.proofs.Math.Seq.{take-append_seam, take-append-add}
 use Rattle.cell_refs.specs.declared.references.RefText.{RefText}
 use Rattle.cell_refs.specs.RefText.{IsReference}
@@ -10,13 +10,13 @@ use Rattle.cell_refs.proofs.BothWays.{reference_capitals}
 use Rattle.formula_parse.specs.declared.tokens.Token.TheVariants as tokens
 use Rattle.formula_parse.specs.Lexing.{corner_begun, name_begun, reference_begun, plain_begun, passes_at}
 use Rattle.formula_parse.specs.Tokens.{Writes}
-use Rattle.formula_parse.proofs.LexFirst.{first_passes, passes_seam}
 use Rattle.formula_parse.proofs.LexCorners.{IsPlain, plain_goes_on, plain_most, plain_within}
-use Rattle.formula_parse.proofs.LexFronts.{Inside, Beyond, compared}
+use Rattle.formula_parse.proofs.LexFronts.{compared}
 use Rattle.formula_parse.proofs.LexReferenceFronts.{reference_most}
-use Rattle.formula_parse.proofs.LexReferences.{Refers, reference_refers, reference_whole, reference_joined, piece_refers}
+use Rattle.formula_parse.proofs.LexReferences.{reference_refers, reference_whole, reference_joined, piece_refers}
 use Rattle.formula_parse.proofs.LexWords.{passes_split, first_is, behind_colon}
 
+-- what begins an area is no more than the text
 pub corner_within : (text : List ℕ) (o : Option (RefText × ℕ)) → corner_begun text o ≤ length text
 corner_within text None = omega arith
 corner_within text (Some found) = ⊎_elim
@@ -28,6 +28,7 @@ corner_within text (Some found) = ⊎_elim
     (λ n. let e : corner_begun text (Some found) ≡ 0 = cond-false _ _ _ n in omega arith)
     (cases_Bool (passes_at (λ b. eqb b 58) text found.1))
 
+-- the front of a text up to so many bytes behind a `:`
 front_taken : (text front more : List ℕ) (n k : ℕ) → text ≡ front ++ 58 ∷ more → n ≡ length front → take (n + 1 + k) text ≡ front ++ 58 ∷ take k more
 front_taken text front more n k e f =
     let place : n + 1 + k ≡ length front + suc k = omega arith in
@@ -61,6 +62,7 @@ colon_there (c ∷ cs) more back (suc k) h e =
     let rest : take k cs ++ more ≡ back = cc in
     inr (k, cs, refl, ap (λ b. b ∷ cs) first, omega arith, rest)
 
+-- how much of a text an area begins with, by its first corner
 corner_is : (text front rest : List ℕ) (a : RefText) → text ≡ front ++ 58 ∷ rest → capitals front ≡ reference_capitals a → IsReference a → corner_begun text (reference_at text) ≡ length front + 1 + plain_begun rest
 corner_is text front rest a whole e inside =
     let read : reference_at text ≡ Some (a, length front) = ap reference_at whole ∙ reference_joined front (58 ∷ rest) a e inside refl in

@@ -1,6 +1,6 @@
 -- How much of a text some operand begins with.
-use Rattle.std.proofs.Common.{◌≡◌, ℕ, ◌+◌, ◌-◌, ◌<◌, ◌≤◌, zero, suc, max, Bool, true, false, cond, ◌&&◌, ◌||◌, eqb, List, [], ◌∷◌, ◌++◌, length, take, drop, Option, Some, None, refl, sym, ap, subst, ◌∙◌, arith, ◌⊎◌, inl, inr, ⊎_elim, codes}
-use Rattle.std.proofs.lemmas.Bool.{cases_Bool, cond-true, cond-false, and_parts, or_from, or_left, cases_lt}
+use Rattle.std.proofs.Common.{◌≡◌, ℕ, ◌+◌, ◌<◌, ◌≤◌, suc, max, Bool, true, false, eqb, List, [], ◌∷◌, ◌++◌, length, take, None, refl, sym, ap, subst, ◌∙◌, arith, ◌⊎◌, inl, inr, ⊎_elim}
+use Rattle.std.proofs.lemmas.Bool.{cond-true, cond-false, and_parts, or_left, cases_lt}
 use Rattle.std.proofs.lemmas.Bool.Decides.{nat_tests}
 use Rattle.std.proofs.lemmas.Option.{none-some}
 use Rattle.std.specs.Char.{is_ascii_digit, is_ascii_alphabetic, is_ascii_control, is_ascii_uppercase, to_ascii_uppercase}
@@ -12,7 +12,7 @@ use Rattle.cell_values.specs.Name.{is_name}
 use Rattle.formula_parse.specs.declared.tokens.Token.{Token}
 use Rattle.formula_parse.specs.declared.tokens.Token.TheVariants as tokens
 use Rattle.formula_parse.specs.Lexing.{token_at, begun_len, error_begun, word_begun, name_begun, reference_begun, corner_begun}
-use Rattle.formula_parse.specs.Tokens.{Writes, boolean_word, number_value}
+use Rattle.formula_parse.specs.Tokens.{Writes, boolean_word}
 use Rattle.formula_parse.proofs.Machine.{is_operand}
 use Rattle.formula_parse.proofs.LexFirst.{by_first, IsMark, begins_word, word_is, at_quote}
 use Rattle.formula_parse.proofs.LexNumbers.{number_begins, numeral_first}
@@ -26,34 +26,42 @@ use Rattle.formula_parse.proofs.LexReferenceFronts.{reference_most}
 use Rattle.formula_parse.proofs.LexAreaFronts.{Begun, corner_within, area_goes_on, area_most}
 
 -- ---- by the first byte
+-- a `"` begins a text
 begun_quote : (rest : List ℕ) → begun_len (34 ∷ rest) ≡ position_or_len is_ascii_control rest + 1
 unfolding begun_len
 begun_quote rest = refl
 
+-- a `#` begins an error value
 begun_hash : (rest : List ℕ) → begun_len (35 ∷ rest) ≡ error_begun (35 ∷ rest)
 unfolding begun_len
 begun_hash rest = refl
 
+-- a letter or a `$` begins a word
 begun_word : (b : ℕ) (rest : List ℕ) → begins_word b ≡ true → begun_len (b ∷ rest) ≡ word_begun (b ∷ rest)
 unfolding begun_len
 begun_word b rest w = let p = word_is b w in cond-false _ _ _ p.1 ∙ (cond-false _ _ _ p.2 ∙ cond-true _ _ _ w)
 
+-- a mark begins nothing that isn't whole
 begun_mark : (b : ℕ) (rest : List ℕ) → IsMark b → begun_len (b ∷ rest) ≡ 0
 unfolding begun_len
 begun_mark b rest m = cond-false _ _ _ m.no_quote ∙ (cond-false _ _ _ m.no_hash ∙ cond-false _ _ _ m.no_word)
 
+-- a digit begins nothing else than a number
 digit_is : (b : ℕ) → is_ascii_digit b ≡ true → (eqb b 34 ≡ false) × (eqb b 35 ≡ false) × (begins_word b ≡ false)
 digit_is b d = (grind (arith, nat_tests), grind (arith, nat_tests), grind (arith, nat_tests))
 
+-- a digit begins nothing that isn't whole
 begun_digit : (b : ℕ) (rest : List ℕ) → is_ascii_digit b ≡ true → begun_len (b ∷ rest) ≡ 0
 unfolding begun_len
 begun_digit b rest d = let p = digit_is b d in cond-false _ _ _ p.0 ∙ (cond-false _ _ _ p.1 ∙ cond-false _ _ _ p.2)
 
+-- nothing begins in no text
 begun_none : begun_len [] ≡ 0
 unfolding begun_len
 begun_none = refl
 
 -- ---- within the text
+-- what begins a word is no more than the text
 word_within : (text : List ℕ) → word_begun text ≤ length text
 word_within text =
     let a = name_within text in
@@ -61,6 +69,7 @@ word_within text =
     let c = corner_within text (reference_at text) in
     omega arith
 
+-- what begins an operand is no more than the text
 pub begun_within : (text : List ℕ) → begun_len text ≤ length text
 begun_within [] = omega (arith, begun_none)
 begun_within (b ∷ rest) =
@@ -76,22 +85,26 @@ begun_within (b ∷ rest) =
 abbrev pub GoesOn : List ℕ → ℕ → Type 0
 GoesOn text n = (more : List ℕ) × (token : Token) × (is_operand token ≡ true) × Writes (take n text ++ more) token
 
+-- the front of a text goes on to a text
 quote_goes_on : (rest : List ℕ) → token_at (34 ∷ rest) ≡ None → GoesOn (34 ∷ rest) (begun_len (34 ∷ rest))
 quote_goes_on rest none =
     let p = text_goes_on rest (sym (at_quote rest) ∙ none) in
     subst (λ n. GoesOn (34 ∷ rest) n) (sym (begun_quote rest)) (34 ∷ [], tokens.Text p.0, refl, p.1)
 
+-- the front of an error word goes on to an error value
 hash_goes_on : (rest : List ℕ) → GoesOn (35 ∷ rest) (begun_len (35 ∷ rest))
 hash_goes_on rest =
     let p = error_goes_on (35 ∷ rest) in
     subst (λ n. GoesOn (35 ∷ rest) n) (sym (begun_hash rest)) (p.0, tokens.Error p.1, refl, p.2)
 
+-- the greatest of three numbers is one of them
 greatest_of : (a b c : ℕ) → (max a (max b c) ≡ a) ⊎ ((max a (max b c) ≡ b) ⊎ (max a (max b c) ≡ c))
 greatest_of a b c = ⊎_elim
     (λ l. ⊎_elim (λ k. inr (inr (omega arith))) (λ k. inr (inl (omega arith))) (cases_lt b c))
     (λ l. inl (omega arith))
     (cases_lt a (max b c))
 
+-- the front of a word goes on to a call, a reference or an area
 word_goes_on : (text : List ℕ) → 0 < word_begun text → GoesOn text (word_begun text)
 word_goes_on text some = ⊎_elim
     (λ e. subst (λ n. GoesOn text n) (sym e) (40 ∷ [], tokens.Call (capitals (take (name_begun text) text)), refl, name_goes_on text (omega arith)))
@@ -101,6 +114,7 @@ word_goes_on text some = ⊎_elim
     other)
     (greatest_of (name_begun text) (reference_begun text) (corner_begun text (reference_at text)))
 
+-- what has begun goes on to an operand, where no token stands whole
 pub goes_on_to_operand : (text : List ℕ) → token_at text ≡ None → 0 < begun_len text → GoesOn text (begun_len text)
 goes_on_to_operand [] none some = absurd (omega (arith, begun_none))
 goes_on_to_operand (b ∷ rest) none some =
@@ -112,22 +126,27 @@ goes_on_to_operand (b ∷ rest) none some =
     (λ m. absurd (omega (arith, begun_mark b rest m)))
 
 -- ---- no longer front goes on
+-- what is a letter in upper case begins a word
 upper_word : (b : ℕ) → is_ascii_uppercase (to_ascii_uppercase b) ≡ true → begins_word b ≡ true
 upper_word b h = grind (arith, nat_tests)
 
+-- the word of a boolean is in upper case
 boolean_upper : (v : Bool) → list_all is_ascii_uppercase (boolean_word v) ≡ true
 boolean_upper true = refl
 boolean_upper false = refl
 
+-- a name begins with a letter
 first_letter : (b : ℕ) (bs written more : List ℕ) → b ∷ bs ≡ written ++ more → is_name written ≡ true → begins_word b ≡ true
 first_letter b bs [] more e h = absurd (cc)
 first_letter b bs (c ∷ cs) more e h =
     let same : c ≡ b = cc in
     ap begins_word (sym same) ∙ or_left _ _ (and_parts (is_ascii_alphabetic c) _ h).0
 
+-- a boolean begins a word
 pub boolean_first : (v : Bool) (b : ℕ) (bs : List ℕ) → Writes (b ∷ bs) (tokens.Boolean v) → begins_word b ≡ true
 boolean_first v b bs w = upper_word b (and_parts (is_ascii_uppercase (to_ascii_uppercase b)) _ (ap (list_all is_ascii_uppercase) w ∙ boolean_upper v)).0
 
+-- a reference begins a word
 pub reference_first : (r : RefText) (b : ℕ) (bs : List ℕ) → Writes (b ∷ bs) (tokens.Reference r) → begins_word b ≡ true
 reference_first r b bs w =
     let p = piece_refers (b ∷ bs) r w in
@@ -135,6 +154,7 @@ reference_first r b bs w =
     let same : b ≡ f.0 = cc (f.2) in
     ap begins_word same ∙ f.3
 
+-- an area begins a word
 pub area_first : (r s : RefText) (b : ℕ) (bs : List ℕ) → Writes (b ∷ bs) (tokens.Area r s) → begins_word b ≡ true
 area_first r s b bs w =
     let p = piece_refers w.0 r w.3 in
@@ -143,6 +163,7 @@ area_first r s b bs w =
     let same : b ≡ f.0 = cc (whole) in
     ap begins_word same ∙ f.3
 
+-- a call begins a word
 pub call_first : (name : List ℕ) (b : ℕ) (bs : List ℕ) → Writes (b ∷ bs) (tokens.Call name) → begins_word b ≡ true
 call_first name b bs w = first_letter b bs w.0 (40 ∷ []) w.1 w.2
 
@@ -150,19 +171,23 @@ call_first name b bs w = first_letter b bs w.0 (40 ∷ []) w.1 w.2
 pub text_first : (t : List ℕ) (b : ℕ) (bs : List ℕ) → Writes (b ∷ bs) (tokens.Text t) → b ≡ 34
 text_first t b bs w = let e = w.0 in cc
 
+-- no text goes on with more than has begun
 quote_most : (b : ℕ) (rest more t : List ℕ) (k : ℕ) → b ≡ 34 → suc k ≤ length (b ∷ rest) → Writes (b ∷ (take k rest ++ more)) (tokens.Text t) → suc k ≤ begun_len (b ∷ rest)
 quote_most b rest more t k q inside w =
     subst (λ c. Writes (c ∷ (take k rest ++ more)) (tokens.Text t) → suc k ≤ begun_len (c ∷ rest)) (sym q)
     (λ w. let h = text_most rest more t k (omega arith) w in omega (arith, begun_quote rest)) w
 
+-- no error value goes on with more than has begun
 hash_most : (b : ℕ) (rest more : List ℕ) (e : ErrorKind) (k : ℕ) → b ≡ 35 → suc k ≤ length (b ∷ rest) → Writes (b ∷ (take k rest ++ more)) (tokens.Error e) → suc k ≤ begun_len (b ∷ rest)
 hash_most b rest more e k q inside w =
     subst (λ c. Writes (c ∷ (take k rest ++ more)) (tokens.Error e) → suc k ≤ begun_len (c ∷ rest)) (sym q)
     (λ w. let h = error_most (35 ∷ rest) more e (suc k) (omega arith) w in omega (arith, begun_hash rest)) w
 
+-- what begins a name, a reference or an area begins a word
 word_most : (text : List ℕ) (m : ℕ) → Begun text m → m ≤ word_begun text
 word_most text m h = ⊎_elim (λ other. ⊎_elim (λ l. omega arith) (λ l. omega arith) other) (λ l. omega arith) h
 
+-- no word goes on with more than has begun
 word_stops : (b : ℕ) (rest : List ℕ) (m : ℕ) → begins_word b ≡ true → Begun (b ∷ rest) m → m ≤ begun_len (b ∷ rest)
 word_stops b rest m w h = let l = word_most (b ∷ rest) m h in omega (arith, begun_word b rest w)
 

@@ -1,21 +1,20 @@
 -- How much of a text a reference without a sheet begins with is how much some such reference goes on with.
-use Rattle.std.proofs.Common.{◌≡◌, ℕ, ◌+◌, ◌-◌, ◌*◌, ◌<◌, ◌≤◌, zero, suc, Bool, true, false, cond, ◌&&◌, eqb, nat_lt, nat_le, List, [], ◌∷◌, ◌++◌, length, take, drop, Option, Some, None, option_and_then, refl, sym, ap, ◌∙◌, arith, ◌⊎◌, ⊎_elim, le-ltb, slice_index}
+use Rattle.std.proofs.Common.{◌≡◌, ℕ, ◌+◌, ◌-◌, ◌*◌, ◌≤◌, Bool, true, false, cond, ◌&&◌, eqb, nat_le, List, [], ◌∷◌, ◌++◌, length, take, drop, Some, None, refl, sym, ap, ◌∙◌, arith, ⊎_elim, le-ltb, slice_index}
 use Rattle.std.specs.Char.{is_ascii_alphabetic, to_ascii_uppercase}
 use Rattle.std.specs.Option.{option_map_or}
 use Rattle.std.proofs.lemmas.Bool.{cases_Bool, cond-true, cond-false, cases_lt}
 use Rattle.std.proofs.lemmas.Bool.Decides.{nat_tests}
 use Rattle.std.proofs.lemmas.List.{append-nil, drop-drop, drop_all, length-take-le, take-append-drop}
-use Rattle.std.proofs.lemmas.Option.{same_Some}
 use Rattle.cell_refs.specs.declared.references.RefText.{RefText}
 use Rattle.cell_refs.specs.Reading.{reference_in}
 use Rattle.cell_refs.specs.RefText.{IsReference}
 use Rattle.cell_refs.specs.Written.{capitals}
 use Rattle.cell_refs.proofs.BothWays.{reference_again, reference_takes, reference_capitals}
 use Rattle.formula_parse.specs.Lexing.{column_begun, row_begun, mark_len, plain_begun, passes_at}
-use Rattle.formula_parse.proofs.LexFirst.{first_passes, passes_seam}
+use Rattle.formula_parse.proofs.LexFirst.{first_passes}
 use Rattle.formula_parse.proofs.LexLiving.{live, live_front, live_most, live_within, front_lives, front_joins, ending, column_live, behind_letters, behind_column, column_more, marked}
 use Rattle.formula_parse.proofs.LexPlain.{reference_forth, reference_back}
-use Rattle.formula_parse.proofs.LexRows.{Step, Start, ColumnMark, Column, RowMark, Row, column_after, row_after, next_step, run}
+use Rattle.formula_parse.proofs.LexRows.{Start, ColumnMark, Column, Row, next_step, run}
 use Rattle.formula_parse.proofs.LexWords.{passes_split}
 
 -- the byte at a place is the first of the text from there on
@@ -38,6 +37,7 @@ tail_at text n =
 abbrev letters_begun : List ℕ → ℕ
 letters_begun u = cond (eqb (column_begun 0 u) 0) 0 (behind_column 0 u)
 
+-- the `$` of the column, and what begins behind it
 plain_is : (text : List ℕ) → plain_begun text ≡ mark_len text 0 + letters_begun (drop (mark_len text 0) text)
 plain_is text = by_test (mark_len text 0) (column_begun 0 (drop (mark_len text 0) text)) (eqb (column_begun 0 (drop (mark_len text 0) text)) 0)
   where
@@ -47,9 +47,11 @@ plain_is text = by_test (mark_len text 0) (column_begun 0 (drop (mark_len text 0
         let e : behind_letters (drop (first + letters) text) ≡ behind_letters (drop letters (drop first text)) = ap behind_letters (sym (drop-drop letters first text)) in
         tail_at text (first + letters) ∙ omega (arith, e)
 
+-- one more is never 0
 some_letters : (k : ℕ) → eqb (k + 1) 0 ≡ false
 some_letters k = grind (arith, nat_tests)
 
+-- what begins behind the `$` of a column lives
 letters_live : (text : List ℕ) → live ColumnMark text ≡ letters_begun text
 unfolding next_step
 letters_live [] = refl
@@ -65,6 +67,7 @@ letters_live (b ∷ bs) = by_test (is_ascii_alphabetic b && nat_le (26 * 0 + (to
         let c : column_begun 0 (b ∷ bs) ≡ 0 = cond-false _ _ _ e in
         sym (ap (λ j. cond (eqb j 0) 0 (j + behind_letters (drop j (b ∷ bs)))) c)
 
+-- what begins a reference lives
 start_live : (text : List ℕ) → live Start text ≡ mark_len text 0 + letters_begun (drop (mark_len text 0) text)
 unfolding next_step
 start_live [] = refl
@@ -79,9 +82,11 @@ start_live (b ∷ bs) = ⊎_elim
     ∙ (letters_live (b ∷ bs) ∙ (omega arith ∙ sym (ap (λ j. j + letters_begun (drop j (b ∷ bs))) e))))
     (cases_Bool (eqb b 36))
 
+-- how much of a text begins a reference is how much of it lives
 plain_live : (text : List ℕ) → plain_begun text ≡ live Start text
 plain_live text = plain_is text ∙ sym (start_live text)
 
+-- what begins a reference is no more than the text
 pub plain_within : (text : List ℕ) → plain_begun text ≤ length text
 plain_within text = let h = live_within Start text in omega (arith, plain_live text)
 
@@ -92,11 +97,13 @@ pub record IsPlain (piece : List ℕ) : Type 0 where
   pub inside : IsReference reference
   pub no_sheet : reference.sheet ≡ None
 
+-- a reference is run through to its row
 plain_run : (piece : List ℕ) → IsPlain piece → (row : ℕ) × (run Start piece ≡ Some (Row row))
 plain_run piece p =
     let e : reference_in (capitals piece) ≡ Some (p.reference, []) = ap reference_in (p.spelled ∙ sym (append-nil (reference_capitals p.reference))) ∙ reference_again p.reference [] p.inside refl in
     reference_forth piece p.reference e p.no_sheet
 
+-- what is run through to a row is a reference
 run_plain : (piece : List ℕ) (row : ℕ) → run Start piece ≡ Some (Row row) → IsPlain piece
 run_plain piece row h =
     let q = reference_back piece row h in

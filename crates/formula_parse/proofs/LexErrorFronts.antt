@@ -1,5 +1,5 @@
 -- How much of a text an error word begins with.
-use Rattle.std.proofs.Common.{◌≡◌, ℕ, ◌+◌, ◌-◌, ◌<◌, ◌≤◌, zero, suc, max, Bool, true, false, cond, eqb, List, [], ◌∷◌, ◌++◌, map, length, take, drop, get_or, refl, sym, ap, ◌∙◌, arith, ◌⊎◌, inl, inr, ⊎_elim, eqb-true, codes, add-one}
+use Rattle.std.proofs.Common.{◌≡◌, ℕ, ◌+◌, ◌<◌, ◌≤◌, zero, suc, true, eqb, List, [], ◌∷◌, ◌++◌, map, length, take, drop, get_or, refl, sym, ap, ◌∙◌, arith, ⊎_elim, eqb-true, add-one}
 use Rattle.std.proofs.lemmas.Bool.{cases_Bool, cond-true, cond-false, cases_lt}
 use Rattle.std.proofs.lemmas.Bool.Decides.{nat_tests}
 use Rattle.std.proofs.lemmas.List.{length-map, map-append, take-append-drop, take-map, drop-map}
@@ -13,6 +13,7 @@ use Rattle.formula_parse.specs.Lexing.{common_len, greatest, error_begun, all_er
 use Rattle.formula_parse.specs.Tokens.{Writes}
 
 -- ---- what two texts have in common
+-- what two texts have in common is no more than the second
 common_within : (xs ys : List ℕ) → common_len xs ys ≤ length ys
 common_within [] ys = omega arith
 common_within (x ∷ xs) [] = omega arith
@@ -21,6 +22,7 @@ common_within (x ∷ xs) (y ∷ ys) = ⊎_elim
     (λ n. let c : common_len (x ∷ xs) (y ∷ ys) ≡ 0 = cond-false _ _ _ n in omega arith)
     (cases_Bool (eqb x y))
 
+-- what two texts have in common is the front of both
 common_front : (xs ys : List ℕ) → take (common_len xs ys) ys ≡ take (common_len xs ys) xs
 common_front [] ys = refl
 common_front (x ∷ xs) [] = refl
@@ -34,9 +36,11 @@ common_front (x ∷ xs) (y ∷ ys) = ⊎_elim
     ap (λ n. take n (y ∷ ys)) c ∙ sym (ap (λ n. take n (x ∷ xs)) c))
     (cases_Bool (eqb x y))
 
+-- a byte passes the test for itself
 same_test : (x y : ℕ) → x ≡ y → eqb x y ≡ true
 same_test x y e = grind (arith, nat_tests)
 
+-- what is the front of both is no more than they have in common
 common_most : (xs ys more : List ℕ) (n : ℕ) → n ≤ length ys → take n ys ++ more ≡ xs → n ≤ common_len xs ys
 common_most xs ys more zero h e = omega arith
 common_most xs [] more (suc n) h e = absurd (omega arith)
@@ -49,21 +53,25 @@ common_most (x ∷ xs) (y ∷ ys) more (suc n) h e =
     omega arith
 
 -- ---- the greatest of numbers
+-- the greatest of numbers is no more than what none of them exceeds
 greatest_below : {X : Type 0} (f : X → ℕ) (k : ℕ) → ((x : X) → f x ≤ k) → (xs : List X) → greatest (map f xs) ≤ k
 greatest_below f k h [] = omega arith
 greatest_below f k h (x ∷ xs) = let more = greatest_below f k h xs in omega (arith, h x)
 
+-- the greatest of numbers is one of them
 greatest_one : {X : Type 0} (f : X → ℕ) (x : X) (xs : List X) → (y : X) × (greatest (map f (x ∷ xs)) ≡ f y)
 greatest_one f x [] = (x, omega arith)
 greatest_one f x (z ∷ zs) =
     let q = greatest_one f z zs in
     ⊎_elim (λ l. (q.0, (let g = q.1 in omega arith))) (λ l. (x, omega arith)) (cases_lt (f x) (greatest (map f (z ∷ zs))))
 
+-- the greatest of numbers is at least each of them
 greatest_at : {X : Type 0} (f : X → ℕ) (xs : List X) (i : ℕ) (d : X) → i < length xs → f (get_or xs i d) ≤ greatest (map f xs)
 greatest_at f [] i d h = absurd (omega arith)
 greatest_at f (x ∷ xs) zero d h = omega arith
 greatest_at f (x ∷ xs) (suc i) d h = let more = greatest_at f xs i d (omega arith) in omega arith
 
+-- the greatest for all error values is at least that for each
 greatest_error : (f : ErrorKind → ℕ) (e : ErrorKind) → f e ≤ greatest (map f all_errors)
 greatest_error f errors.Null = greatest_at f all_errors 0 errors.Null (omega arith)
 greatest_error f errors.Div0 = greatest_at f all_errors 1 errors.Null (omega arith)
@@ -74,10 +82,12 @@ greatest_error f errors.Num = greatest_at f all_errors 5 errors.Null (omega arit
 greatest_error f errors.Na = greatest_at f all_errors 6 errors.Null (omega arith)
 
 -- ---- error words
+-- what begins an error word is no more than the text
 pub error_begun_within : (text : List ℕ) → error_begun text ≤ length text
 error_begun_within text =
     greatest_below (λ e. common_len (error_word e) (capitals text)) (length text) (λ e. let h = common_within (error_word e) (capitals text) in omega (arith, length-map text to_ascii_uppercase)) all_errors
 
+-- an error word is in upper case
 word_upper : (e : ErrorKind) → capitals (error_word e) ≡ error_word e
 word_upper errors.Null = refl
 word_upper errors.Div0 = refl
@@ -87,6 +97,7 @@ word_upper errors.Name = refl
 word_upper errors.Num = refl
 word_upper errors.Na = refl
 
+-- what a text has in common with an error word, and the rest of the word
 completed : (text : List ℕ) (e : ErrorKind) (n : ℕ) → n ≡ common_len (error_word e) (capitals text) → capitals (take n text ++ drop n (error_word e)) ≡ error_word e
 completed text e n is =
     let front : capitals (take n text) ≡ take n (error_word e) = sym (take-map to_ascii_uppercase n text) ∙ (ap (λ k. take k (capitals text)) is ∙ (common_front (error_word e) (capitals text) ∙ ap (λ k. take k (error_word e)) (sym is))) in

@@ -1,7 +1,7 @@
 -- An error value at the front of a text.
-use Rattle.std.proofs.Common.{◌≡◌, ℕ, ◌+◌, ◌<◌, ◌≤◌, Bool, true, false, cond, List, [], ◌∷◌, ◌++◌, length, take, drop, Option, Some, None, option_map, refl, sym, ap, subst, ◌∙◌, arith, ⊎_elim, codes}
+use Rattle.std.proofs.Common.{◌≡◌, ℕ, ◌<◌, ◌≤◌, Bool, true, List, [], ◌∷◌, ◌++◌, length, take, drop, Some, option_map, refl, sym, ap, subst, ◌∙◌, arith, ⊎_elim, codes}
 use Rattle.std.proofs.lemmas.Bool.Decides.{nat_tests}
-use Rattle.std.proofs.lemmas.List.{length-append, length-map, length-take, map-append, take-append-drop, take-map}
+use Rattle.std.proofs.lemmas.List.{length-map, length-take, map-append, take-append-drop, take-map}
 use Rattle.std.proofs.lemmas.Slice.Eq.{bytes_eq-Decides}
 use Rattle.std.specs.Char.{to_ascii_uppercase}
 use Rattle.std.specs.List.{find}
@@ -13,9 +13,10 @@ use Rattle.cell_values.specs.Error.{error_word}
 use Rattle.formula_parse.specs.declared.tokens.Token.{Token}
 use Rattle.formula_parse.specs.declared.tokens.Token.TheVariants as tokens
 use Rattle.formula_parse.specs.Lexing.{token_at, error_at, all_errors, begins_with}
-use Rattle.formula_parse.proofs.LexFirst.{Found, found_as, first_passes, chosen, at_hash}
+use Rattle.formula_parse.proofs.LexFirst.{Found, found_as, chosen, at_hash, never}
 use Rattle.formula_parse.proofs.LexTexts.{mapped_some}
 
+-- what is found passes the test
 find_passes : {X : Type 0} (p : X → Bool) (xs : List X) (x : X) → find p xs ≡ Some x → p x ≡ true
 find_passes p [] x h = absurd (cc)
 find_passes p (y ∷ ys) x h =
@@ -29,6 +30,7 @@ begins_parts word text h =
     let front : take (length word) (capitals text) ≡ word = (bytes_eq-Decides (take (length word) (capitals text)) word).0 h in
     (sym (take-map to_ascii_uppercase (length word) text) ∙ front, omega (arith, ap length front, length-take (length word) (capitals text), length-map text to_ascii_uppercase))
 
+-- an error word has a byte
 word_some : (e : ErrorKind) → 0 < length (error_word e)
 word_some errors.Null = omega arith
 word_some errors.Div0 = omega arith
@@ -37,10 +39,6 @@ word_some errors.Ref = omega arith
 word_some errors.Name = omega arith
 word_some errors.Num = omega arith
 word_some errors.Na = omega arith
-
-never : (rest : List ℕ) → first_passes (λ b. false) rest ≡ false
-never [] = refl
-never (c ∷ cs) = refl
 
 -- the error that is found is written
 pub error_found : (rest : List ℕ) (token : Token) (n : ℕ) → token_at (35 ∷ rest) ≡ Some (token, n) → Found (35 ∷ rest) token n
@@ -69,6 +67,7 @@ error_there errors.Name rest = refl
 error_there errors.Num rest = refl
 error_there errors.Na rest = refl
 
+-- an error word begins with a `#`
 hash_of : (e : ErrorKind) → (more : List ℕ) × (error_word e ≡ 35 ∷ more)
 hash_of errors.Null = (codes "NULL!", refl)
 hash_of errors.Div0 = (codes "DIV/0!", refl)
@@ -78,6 +77,7 @@ hash_of errors.Name = (codes "NAME?", refl)
 hash_of errors.Num = (codes "NUM!", refl)
 hash_of errors.Na = (codes "N/A", refl)
 
+-- what is a `#` in upper case is one
 upper_hash : (b : ℕ) → to_ascii_uppercase b ≡ 35 → b ≡ 35
 upper_hash b e = grind (arith, nat_tests)
 

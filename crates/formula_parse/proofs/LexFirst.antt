@@ -1,9 +1,9 @@
 -- A token at the front of a text, by the first byte.
-use Rattle.std.proofs.Common.{◌≡◌, ℕ, suc, ◌<◌, ◌≤◌, Bool, true, false, cond, ◌||◌, ◌&&◌, eqb, nat_lt, List, [], ◌∷◌, ◌++◌, length, take, drop, slice_index, Option, Some, None, refl, sym, ap, subst, ◌∙◌, arith, ◌⊎◌, inl, inr, ⊎_elim, eqb-true, lt-ltb, le-ltb}
-use Rattle.std.proofs.lemmas.Bool.{cases_Bool, cond-true, cond-false, or_from}
+use Rattle.std.proofs.Common.{◌≡◌, ℕ, ◌<◌, Bool, true, false, cond, ◌||◌, ◌&&◌, eqb, List, [], ◌∷◌, ◌++◌, length, slice_index, Option, Some, refl, ap, subst, ◌∙◌, arith, ◌⊎◌, inl, inr, ⊎_elim, eqb-true, lt-ltb, le-ltb}
+use Rattle.std.proofs.lemmas.Bool.{cases_Bool, cond-true, cond-false}
 use Rattle.std.proofs.lemmas.Bool.Decides.{nat_tests}
-use Rattle.std.proofs.lemmas.List.{length-append, append-nil}
-use Rattle.std.proofs.Math.Seq.{drop-append_seam, take-append_seam, get_or-append_seam}
+use Rattle.std.proofs.lemmas.List.{length-append}
+use Rattle.std.proofs.Math.Seq.{get_or-append_seam}
 use Rattle.std.specs.Char.{is_ascii_digit, is_ascii_alphabetic}
 use Rattle.formula_parse.specs.declared.tokens.Token.{Token}
 use Rattle.formula_parse.specs.Lexing.{token_at, number_at, text_behind, error_at, word_at, mark_at, passes_at}
@@ -31,6 +31,11 @@ pub goes_on_first : (token : Token) (rest : List ℕ) → goes_on_with token res
 goes_on_first token [] = refl
 goes_on_first token (c ∷ cs) = refl
 
+-- no byte goes on with a token that nothing goes on with
+pub never : (rest : List ℕ) → first_passes (λ b. false) rest ≡ false
+never [] = refl
+never (c ∷ cs) = refl
+
 -- a token of this length is written at the front of the text, and nothing goes on with it
 pub record Found (text : List ℕ) (token : Token) (n : ℕ) : Type 0 where
   pub piece : List ℕ
@@ -53,14 +58,17 @@ chosen true x y z e = inl (refl, e)
 chosen false x y z e = inr (refl, e)
 
 -- ---- the five kinds of a first byte
+-- a digit begins a number
 pub at_digit : (b : ℕ) (rest : List ℕ) → is_ascii_digit b ≡ true → token_at (b ∷ rest) ≡ number_at (b ∷ rest)
 unfolding token_at
 at_digit b rest d = cond-true _ _ _ d
 
+-- a `"` begins a text
 pub at_quote : (rest : List ℕ) → token_at (34 ∷ rest) ≡ text_behind rest
 unfolding token_at
 at_quote rest = refl
 
+-- a `#` begins an error value
 pub at_hash : (rest : List ℕ) → token_at (35 ∷ rest) ≡ error_at (35 ∷ rest)
 unfolding token_at
 at_hash rest = refl
@@ -76,13 +84,16 @@ pub record IsMark (b : ℕ) : Type 0 where
   pub no_hash : eqb b 35 ≡ false
   pub no_word : begins_word b ≡ false
 
+-- a letter or a `$` is no digit, no `"` and no `#`
 pub word_is : (b : ℕ) → begins_word b ≡ true → (is_ascii_digit b ≡ false) × (eqb b 34 ≡ false) × (eqb b 35 ≡ false)
 word_is b w = (grind (arith, nat_tests), grind (arith, nat_tests), grind (arith, nat_tests))
 
+-- a letter or a `$` begins a word
 pub at_word : (b : ℕ) (rest : List ℕ) → begins_word b ≡ true → token_at (b ∷ rest) ≡ word_at (b ∷ rest)
 unfolding token_at
 at_word b rest w = let p = word_is b w in cond-false _ _ _ p.0 ∙ (cond-false _ _ _ p.1 ∙ (cond-false _ _ _ p.2 ∙ cond-true _ _ _ w))
 
+-- another byte begins a mark or nothing
 pub at_mark : (b : ℕ) (rest : List ℕ) → IsMark b → token_at (b ∷ rest) ≡ mark_at b rest
 unfolding token_at
 at_mark b rest m = cond-false _ _ _ m.no_digit ∙ (cond-false _ _ _ m.no_quote ∙ (cond-false _ _ _ m.no_hash ∙ cond-false _ _ _ m.no_word))

@@ -1,5 +1,5 @@
 -- Fronts of lists.
-use Rattle.std.proofs.Common.{◌≡◌, ℕ, ◌+◌, ◌-◌, ◌<◌, ◌≤◌, zero, suc, Bool, true, false, cond, ◌&&◌, ◌||◌, List, [], ◌∷◌, ◌++◌, length, take, drop, take_while, refl, sym, ap, ◌∙◌, arith, ◌⊎◌, ⊎_elim, inl, inr}
+use Rattle.std.proofs.Common.{◌≡◌, ℕ, ◌+◌, ◌<◌, ◌≤◌, zero, suc, Bool, true, List, [], ◌∷◌, ◌++◌, length, take, drop, take_while, refl, ap, ◌∙◌, arith, ◌⊎◌, ⊎_elim, inl, inr}
 use Rattle.std.proofs.lemmas.Bool.{cases_Bool, cond-true, cond-false, and_parts, and_from}
 use Rattle.std.proofs.lemmas.List.Sums.{take_while-cons}
 use Rattle.std.specs.List.{list_all}
@@ -9,6 +9,7 @@ pub record Inside (text piece : List ℕ) (m : ℕ) : Type 0 where
   pub less : m < length piece
   pub whole : take m text ++ drop m piece ≡ piece
 
+-- the piece is a front of the text, of which so many bytes more are taken
 pub record Beyond (text more piece others : List ℕ) (m : ℕ) : Type 0 where
   pub left : List ℕ
   pub count : ℕ
@@ -17,6 +18,7 @@ pub record Beyond (text more piece others : List ℕ) (m : ℕ) : Type 0 where
   pub within : count ≤ length left
   pub agrees : take count left ++ more ≡ others
 
+-- which of the two ends first
 pub compared : (text more piece others : List ℕ) (m : ℕ) → m ≤ length text → take m text ++ more ≡ piece ++ others → Inside text piece m ⊎ Beyond text more piece others m
 compared text more [] others m h e = inr (record { left = text; count = m; whole = refl; place = omega arith; within = h; agrees = e })
 compared text more (c ∷ cs) others zero h e = inl (record { less = omega arith; whole = refl })

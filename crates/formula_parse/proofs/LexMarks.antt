@@ -1,30 +1,26 @@
 -- Marks and operators at the front of a text.
-use Rattle.std.proofs.Common.{◌≡◌, ℕ, ◌<◌, ◌≤◌, Bool, true, false, cond, ◌||◌, eqb, List, [], ◌∷◌, ◌++◌, length, Option, Some, None, option_map, refl, sym, ap, subst, ◌∙◌, arith, ⊎_elim, eqb-true, codes}
-use Rattle.std.proofs.lemmas.Bool.Decides.{nat_tests}
+use Rattle.std.proofs.Common.{◌≡◌, ℕ, Bool, true, false, cond, ◌||◌, eqb, List, [], ◌∷◌, ◌++◌, length, Option, Some, None, option_map, refl, sym, ap, subst, ◌∙◌, arith, ⊎_elim, eqb-true, codes}
 use Rattle.std.proofs.lemmas.Bool.{or_from}
 use Rattle.cell_values.specs.declared.comparison.CompareOp.TheVariants as compare
 use Rattle.formula_parse.specs.declared.operators.Operator.{Operator}
 use Rattle.formula_parse.specs.declared.operators.Operator.TheVariants as operators
 use Rattle.formula_parse.specs.declared.tokens.Token.{Token}
 use Rattle.formula_parse.specs.declared.tokens.Token.TheVariants as tokens
-use Rattle.formula_parse.specs.Lexing.{token_at, mark_at, operator_at, operator_len, less_at, greater_at, passes_at}
-use Rattle.formula_parse.specs.Tokens.{Writes, goes_on, goes_on_with, operator_text}
-use Rattle.formula_parse.proofs.LexFirst.{Found, found_as, first_passes, passes_seam, chosen, IsMark, at_mark}
+use Rattle.formula_parse.specs.Lexing.{token_at, operator_at, operator_len, less_at, greater_at, passes_at}
+use Rattle.formula_parse.specs.Tokens.{Writes, goes_on, operator_text}
+use Rattle.formula_parse.proofs.LexFirst.{Found, found_as, first_passes, passes_seam, chosen, IsMark, at_mark, never}
 
 -- an operator that stands at the front of a text
 abbrev Operates : List ℕ → Operator → Type 0
 Operates text op = Found text (tokens.Operator op) (operator_len op)
 
+-- the same operator under another name
 operates_as : (text : List ℕ) (op other : Operator) → Some op ≡ Some other → Operates text op → Operates text other
 operates_as text op other e f = let same : op ≡ other = cc in subst (λ op. Operates text op) same f
 
 -- a mark of one byte
 single : (b : ℕ) (rest : List ℕ) (token : Token) → Writes (b ∷ []) token → first_passes (goes_on token) rest ≡ false → Found (b ∷ rest) token 1
 single b rest token w s = record { piece = b ∷ []; rest = rest; whole = refl; count = refl; some = omega arith; writes = w; stops = s }
-
-never : (rest : List ℕ) → first_passes (λ b. false) rest ≡ false
-never [] = refl
-never (c ∷ cs) = refl
 
 -- a mark of one byte that nothing goes on with, by the byte's value
 plain : (b k : ℕ) (rest : List ℕ) (token : Token) → eqb b k ≡ true → Writes (k ∷ []) token → first_passes (goes_on token) rest ≡ false → Found (b ∷ rest) token 1
@@ -34,17 +30,21 @@ plain b k rest token e w s = let same : k ≡ b = sym (eqb-true b k e) in subst 
 double : (b c : ℕ) (rest : List ℕ) (token : Token) → Writes (b ∷ c ∷ []) token → first_passes (goes_on token) rest ≡ false → Found (b ∷ c ∷ rest) token 2
 double b c rest token w s = record { piece = b ∷ c ∷ []; rest = rest; whole = refl; count = refl; some = omega arith; writes = w; stops = s }
 
+-- a mark of two bytes, by the value of the second
 double_at : (b c k : ℕ) (rest : List ℕ) (token : Token) → eqb c k ≡ true → Writes (b ∷ k ∷ []) token → first_passes (goes_on token) rest ≡ false → Found (b ∷ c ∷ rest) token 2
 double_at b c k rest token e w s = let same : k ≡ c = sym (eqb-true c k e) in subst (λ c. Found (b ∷ c ∷ rest) token 2) same (double b k rest token w s)
 
+-- the operator with `<` at its front, by the byte behind it
 less_is : (c : ℕ) (cs : List ℕ) → less_at (c ∷ cs) ≡ cond (eqb c 61) (operators.Compare compare.Le) (cond (eqb c 62) (operators.Compare compare.Ne) (operators.Compare compare.Lt))
 less_is c cs =
     ap (λ p. cond p (operators.Compare compare.Le) (cond (passes_at (λ b. eqb b 62) (c ∷ cs) 0) (operators.Compare compare.Ne) (operators.Compare compare.Lt))) (passes_seam (λ b. eqb b 61) [] (c ∷ cs))
     ∙ ap (λ q. cond (eqb c 61) (operators.Compare compare.Le) (cond q (operators.Compare compare.Ne) (operators.Compare compare.Lt))) (passes_seam (λ b. eqb b 62) [] (c ∷ cs))
 
+-- the operator with `>` at its front, by the byte behind it
 greater_is : (c : ℕ) (cs : List ℕ) → greater_at (c ∷ cs) ≡ cond (eqb c 61) (operators.Compare compare.Ge) (operators.Compare compare.Gt)
 greater_is c cs = ap (λ p. cond p (operators.Compare compare.Ge) (operators.Compare compare.Gt)) (passes_seam (λ b. eqb b 61) [] (c ∷ cs))
 
+-- an operator with `<` at its front stands where it is found
 less_found : (rest : List ℕ) → Operates (60 ∷ rest) (less_at rest)
 less_found [] = single 60 [] (tokens.Operator (operators.Compare compare.Lt)) refl refl
 less_found (c ∷ cs) = subst (λ op. Operates (60 ∷ c ∷ cs) op) (sym (less_is c cs)) (by_tests (eqb c 61) (eqb c 62) refl refl)
@@ -54,6 +54,7 @@ less_found (c ∷ cs) = subst (λ op. Operates (60 ∷ c ∷ cs) op) (sym (less_
     by_tests false true e f = double_at 60 c 62 cs (tokens.Operator (operators.Compare compare.Ne)) f refl (never cs)
     by_tests false false e f = single 60 (c ∷ cs) (tokens.Operator (operators.Compare compare.Lt)) refl (or_from _ _ e f)
 
+-- an operator with `>` at its front stands where it is found
 greater_found : (rest : List ℕ) → Operates (62 ∷ rest) (greater_at rest)
 greater_found [] = single 62 [] (tokens.Operator (operators.Compare compare.Gt)) refl refl
 greater_found (c ∷ cs) = subst (λ op. Operates (62 ∷ c ∷ cs) op) (sym (greater_is c cs)) (by_test (eqb c 61) refl)
@@ -62,6 +63,7 @@ greater_found (c ∷ cs) = subst (λ op. Operates (62 ∷ c ∷ cs) op) (sym (gr
     by_test true e = double_at 62 c 61 cs (tokens.Operator (operators.Compare compare.Ge)) e refl (never cs)
     by_test false e = single 62 (c ∷ cs) (tokens.Operator (operators.Compare compare.Gt)) refl e
 
+-- an operator stands where it is found
 operator_found : (b : ℕ) (rest : List ℕ) (op : Operator) → operator_at b rest ≡ Some op → Operates (b ∷ rest) op
 operator_found b rest op h =
     ⊎_elim (λ y. operates_as (b ∷ rest) (operators.Compare compare.Eq) op y.1 (plain b 61 rest (tokens.Operator (operators.Compare compare.Eq)) y.0 refl (never rest)))
@@ -82,6 +84,7 @@ operator_found b rest op h =
     (chosen (eqb b 60) _ _ _ n.1))
     (chosen (eqb b 61) _ _ _ h)
 
+-- the operator that is found, if one is
 some_operator : (b : ℕ) (rest : List ℕ) (token : Token) (n : ℕ) (o : Option Operator) → operator_at b rest ≡ o → option_map {T = Operator} {U = Token × ℕ} (λ op. (tokens.Operator op, operator_len op)) o ≡ Some (token, n) → Found (b ∷ rest) token n
 some_operator b rest token n None e h = absurd (cc)
 some_operator b rest token n (Some op) e h = found_as (b ∷ rest) (tokens.Operator op) token (operator_len op) n h (operator_found b rest op e)
@@ -97,15 +100,18 @@ mark_found b rest token n m h =
     (chosen (eqb b 41) _ _ _ no.1))
     (chosen (eqb b 40) _ _ _ (sym (at_mark b rest m) ∙ h))
 
+-- a `<` with neither `=` nor `>` behind it
 less_alone : (p q : Bool) → (p || q) ≡ false → cond p (operators.Compare compare.Le) (cond q (operators.Compare compare.Ne) (operators.Compare compare.Lt)) ≡ operators.Compare compare.Lt
 less_alone true q e = absurd (cc)
 less_alone false true e = absurd (cc)
 less_alone false false e = refl
 
+-- a `>` without `=` behind it
 greater_alone : (p : Bool) → p ≡ false → cond p (operators.Compare compare.Ge) (operators.Compare compare.Gt) ≡ operators.Compare compare.Gt
 greater_alone true e = absurd (cc)
 greater_alone false e = refl
 
+-- an operator with its length
 abbrev as_found : Operator → Option (Token × ℕ)
 as_found op = Some (tokens.Operator op, operator_len op)
 
@@ -126,14 +132,17 @@ operator_written operators.Subtract rest s = refl
 operator_written operators.Multiply rest s = refl
 operator_written operators.Divide rest s = refl
 
+-- the `(` that is written is found
 pub open_written : (rest : List ℕ) → token_at (codes "(" ++ rest) ≡ Some (tokens.Open, 1)
 unfolding token_at
 open_written rest = refl
 
+-- the `)` that is written is found
 pub close_written : (rest : List ℕ) → token_at (codes ")" ++ rest) ≡ Some (tokens.Close, 1)
 unfolding token_at
 close_written rest = refl
 
+-- the `,` that is written is found
 pub comma_written : (rest : List ℕ) → token_at (codes "," ++ rest) ≡ Some (tokens.Comma, 1)
 unfolding token_at
 comma_written rest = refl

@@ -1,8 +1,8 @@
 -- How much of a text a name begins with.
-use Rattle.std.proofs.Common.{◌≡◌, ℕ, ◌+◌, ◌-◌, ◌<◌, ◌≤◌, zero, suc, min, Bool, true, false, cond, ◌&&◌, ◌||◌, eqb, List, [], ◌∷◌, ◌++◌, length, take, drop, take_while, slice_index, Option, Some, None, refl, sym, ap, subst, ◌∙◌, arith, ◌⊎◌, inl, inr, ⊎_elim}
+use Rattle.std.proofs.Common.{◌≡◌, ℕ, ◌<◌, ◌≤◌, zero, suc, min, Bool, true, false, cond, List, [], ◌∷◌, ◌++◌, length, take, drop, take_while, slice_index, None, refl, sym, ap, ◌∙◌, arith, ◌⊎◌, inl, inr, ⊎_elim}
 use Rattle.std.proofs.lemmas.Bool.{cases_Bool, cond-true, cond-false, and_parts, and_from, leb-true}
 use Rattle.std.proofs.lemmas.Bool.Decides.{nat_tests}
-use Rattle.std.proofs.lemmas.List.{length-map, length-take-le, length-append, append_assoc, map-append}
+use Rattle.std.proofs.lemmas.List.{length-map, length-take-le, length-append, append_assoc}
 use Rattle.std.proofs.lemmas.Option.{none-some}
 use Rattle.std.proofs.Math.Seq.{take-append_seam}
 use Rattle.std.specs.Char.{is_ascii_alphabetic, is_ascii_uppercase, to_ascii_uppercase}
@@ -13,10 +13,11 @@ use Rattle.formula_parse.specs.declared.tokens.Token.{Token}
 use Rattle.formula_parse.specs.declared.tokens.Token.TheVariants as tokens
 use Rattle.formula_parse.specs.Lexing.{token_at, name_begun}
 use Rattle.formula_parse.specs.Tokens.{Writes, boolean_word}
-use Rattle.formula_parse.proofs.LexFronts.{Inside, Beyond, compared, front_passes, short_passes, passing_short, passing_within}
+use Rattle.formula_parse.proofs.LexFronts.{Beyond, compared, front_passes, short_passes, passing_short, passing_within}
 use Rattle.formula_parse.proofs.LexWords.{word_is_name}
 use Rattle.formula_parse.proofs.LexWritten.{call_written, letters_name}
 
+-- what begins a name is no more than the text
 pub name_within : (text : List ℕ) → name_begun text ≤ length text
 name_within text = by_test (is_ascii_alphabetic (slice_index text 0))
   where
@@ -50,10 +51,12 @@ name_most b bs m l inside few all =
     omega arith
 
 -- ---- booleans
+-- the word of a boolean is in upper case, and short
 boolean_upper : (v : Bool) → (list_all is_ascii_uppercase (boolean_word v) ≡ true) × (length (boolean_word v) ≤ 5)
 boolean_upper true = (refl, omega arith)
 boolean_upper false = (refl, omega arith)
 
+-- what is a letter in upper case is one
 upper_letter : (b : ℕ) → is_ascii_uppercase (to_ascii_uppercase b) ≡ true → is_ascii_alphabetic b ≡ true
 upper_letter b h = grind (arith, nat_tests)
 
@@ -69,15 +72,18 @@ boolean_most b bs more v k inside w =
     (front_passes is_name_byte (take (suc k) (b ∷ bs)) more (letters_name (take (suc k) (b ∷ bs) ++ more) upper))
 
 -- ---- calls
+-- a letter can stand in a name
 letter_name : (c : ℕ) → is_ascii_alphabetic c ≡ true → is_name_byte c ≡ true
 letter_name c h = grind (arith, nat_tests)
 
+-- the parts of a name
 record NameParts (written : List ℕ) : Type 0 where
   all : list_all is_name_byte written ≡ true
   some : 0 < length written
   few : length written ≤ 255
   first : is_ascii_alphabetic (slice_index written 0) ≡ true
 
+-- a name has its parts
 name_parts : (written : List ℕ) → is_name written ≡ true → NameParts written
 name_parts [] h = absurd (cc)
 name_parts (c ∷ cs) h =
@@ -85,6 +91,7 @@ name_parts (c ∷ cs) h =
     let q = and_parts (list_all is_name_byte cs) _ p.1 in
     record { all = and_from _ _ (letter_name c p.0) q.0; some = omega arith; few = leb-true _ _ q.1; first = p.0 }
 
+-- two texts that are equal have one first byte
 first_same : (b : ℕ) (bs xs ys : List ℕ) → 0 < length xs → b ∷ bs ≡ xs ++ ys → slice_index xs 0 ≡ b
 first_same b bs [] ys some e = absurd (omega arith)
 first_same b bs (x ∷ xs) ys some e = cc
@@ -95,6 +102,7 @@ bracket left more zero h e some = absurd (omega arith)
 bracket [] more (suc n) h e some = absurd (omega arith)
 bracket (c ∷ cs) more (suc n) h e some = let first : c ≡ 40 = cc in (cs, ap (λ b. b ∷ cs) first)
 
+-- a whole call is found
 call_stands : (text written rest : List ℕ) → text ≡ written ++ 40 ∷ rest → is_name written ≡ true → token_at text ≡ None → ⊥
 call_stands text written rest e h none =
     let found = call_written written rest h in

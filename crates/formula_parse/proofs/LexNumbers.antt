@@ -1,5 +1,5 @@
 -- A number at the front of a text.
-use Rattle.std.proofs.Common.{◌≡◌, ℕ, ◌<◌, ◌≤◌, Bool, true, false, cond, ◌&&◌, List, [], ◌∷◌, ◌++◌, length, drop, take_while, slice_index, Option, Some, None, refl, sym, ap, ◌∙◌, arith}
+use Rattle.std.proofs.Common.{◌≡◌, ℕ, ◌<◌, Bool, true, false, cond, List, [], ◌∷◌, ◌++◌, length, drop, take_while, Some, refl, sym, ap, ◌∙◌, arith}
 use Rattle.std.proofs.lemmas.Bool.{and_parts, and_from, cond-true}
 use Rattle.std.proofs.lemmas.Bool.Decides.{nat_tests}
 use Rattle.std.proofs.lemmas.List.Sums.{take_while-cons}
@@ -10,10 +10,11 @@ use Rattle.std.specs.Str.Parse.{IsNumeral, digits_value}
 use Rattle.cell_refs.proofs.Numbers.{take_while-append, front_and_rest, rest_stops}
 use Rattle.formula_parse.specs.declared.tokens.Token.{Token}
 use Rattle.formula_parse.specs.declared.tokens.Token.TheVariants as tokens
-use Rattle.formula_parse.specs.Lexing.{token_at, number_at}
+use Rattle.formula_parse.specs.Lexing.{token_at}
 use Rattle.formula_parse.specs.Tokens.{number_value}
 use Rattle.formula_parse.proofs.LexFirst.{Found, found_as, first_passes, passes_first, at_digit}
 
+-- the test for digits
 tells_by_all : IsDigitsTest (λ ds. list_all is_ascii_digit ds ≡ true)
 tells_by_all = record {
   empty = refl;
@@ -21,6 +22,7 @@ tells_by_all = record {
   more = λ c cs d h. and_from (is_ascii_digit c) (list_all is_ascii_digit cs) (grind (arith, nat_tests)) h;
 }
 
+-- digits, in the words of `parse`
 digits : IsNumeralModel (λ ds. list_all is_ascii_digit ds ≡ true) (digits_value 10)
 digits = numerals_by_value _ tells_by_all
 
@@ -33,6 +35,7 @@ all_pass p (c ∷ cs) = rw take_while-cons (by_head (p c) refl (all_pass p cs))
     by_head true is all = rw (is, all) refl
     by_head false is all = refl
 
+-- behind a digit there is one
 some_digits : (b : ℕ) (rest : List ℕ) → is_ascii_digit b ≡ true → 0 < length (take_while is_ascii_digit (b ∷ rest))
 some_digits b rest d = let e = ap length (take_while-cons is_ascii_digit b rest ∙ cond-true _ _ _ d) in omega arith
 

@@ -1,6 +1,6 @@
 -- No reference goes on with more of a text than begins one.
-use Rattle.std.proofs.Common.{◌≡◌, ℕ, ◌+◌, ◌-◌, ◌<◌, ◌≤◌, ◌^◌, zero, suc, Bool, true, false, cond, ◌&&◌, ◌||◌, eqb, List, [], ◌∷◌, ◌++◌, length, take, drop, slice_index, Option, Some, None, unwrap_or, codes, decimal, refl, sym, ap, subst, ◌∙◌, arith, ◌⊎◌, inl, inr, ⊎_elim}
-use Rattle.std.proofs.lemmas.Bool.{and_parts, and_from, or_left, or_right}
+use Rattle.std.proofs.Common.{◌≡◌, ℕ, ◌+◌, ◌<◌, ◌≤◌, zero, suc, Bool, true, ◌||◌, List, [], ◌∷◌, ◌++◌, length, take, drop, Option, Some, None, unwrap_or, codes, decimal, refl, sym, ap, ◌∙◌, arith, ◌⊎◌, inl, inr, ⊎_elim}
+use Rattle.std.proofs.lemmas.Bool.{and_parts, and_from, or_right}
 use Rattle.std.proofs.lemmas.Bool.Decides.{nat_tests}
 use Rattle.std.proofs.lemmas.Fmt.{digits_decimal, length-decimal-le}
 use Rattle.std.proofs.lemmas.List.{length-append, length-map, length-take-le, map-append, take-append-drop, take-map, drop-map, append_assoc}
@@ -15,9 +15,9 @@ use Rattle.cell_refs.specs.Written.{capitals}
 use Rattle.cell_refs.proofs.BothWays.{reference_capitals, sheet_capitals}
 use Rattle.cell_refs.proofs.Numerals.{numerals}
 use Rattle.cell_values.specs.Name.{is_name_byte}
-use Rattle.formula_parse.specs.Lexing.{name_begun, reference_begun, plain_begun}
+use Rattle.formula_parse.specs.Lexing.{name_begun, reference_begun}
 use Rattle.formula_parse.proofs.LexCorners.{IsPlain, plain_most}
-use Rattle.formula_parse.proofs.LexFronts.{Inside, Beyond, compared}
+use Rattle.formula_parse.proofs.LexFronts.{compared}
 use Rattle.formula_parse.proofs.LexNameFronts.{name_most}
 use Rattle.formula_parse.proofs.LexSheetFronts.{behind_sheet, on_sheet, sheet_and, own_sheet, sheet_counted, reference_begun_is, plain_reference_most}
 
@@ -26,16 +26,20 @@ use Rattle.formula_parse.proofs.LexSheetFronts.{behind_sheet, on_sheet, sheet_an
 abbrev is_word_capital : ℕ → Bool
 is_word_capital c = is_ascii_uppercase c || is_ascii_digit c
 
+-- digits are capital letters or digits
 digits_are : (xs : List ℕ) → all_ascii_digits xs ≡ true → list_all is_word_capital xs ≡ true
 digits_are [] h = refl
 digits_are (c ∷ cs) h = let p = and_parts (is_ascii_digit c) (all_ascii_digits cs) h in and_from _ _ (or_right (is_ascii_uppercase c) _ p.0) (digits_are cs p.1)
 
+-- so are the word and the number of a sheet
 word_capitals : (sheet : ℕ) → sheet ≤ 64 → list_all is_word_capital (codes "SHEET" ++ decimal sheet) ≡ true
 word_capitals sheet small = list_all-append is_word_capital (codes "SHEET") (decimal sheet) ∙ and_from _ _ refl (digits_are (decimal sheet) (digits_decimal numerals sheet (omega arith)))
 
+-- such a byte can stand in a name, in any case
 byte_name : (b : ℕ) → is_word_capital (to_ascii_uppercase b) ≡ true → is_name_byte b ≡ true
 byte_name b h = grind (arith, nat_tests)
 
+-- such bytes can stand in a name, in any case
 bytes_name : (word : List ℕ) → list_all is_word_capital (capitals word) ≡ true → list_all is_name_byte word ≡ true
 bytes_name [] h = refl
 bytes_name (b ∷ bs) h = let p = and_parts (is_word_capital (to_ascii_uppercase b)) _ h in and_from _ _ (byte_name b p.0) (bytes_name bs p.1)
@@ -50,6 +54,7 @@ common_passes p (x ∷ xs) ys (z ∷ zs) ws e h all =
     let rest : xs ++ ys ≡ zs ++ ws = cc in
     and_from _ _ (ap p first ∙ q.0) (common_passes p xs ys zs ws rest (omega arith) q.1)
 
+-- what is an S in upper case is a letter
 letter_of : (b : ℕ) → to_ascii_uppercase b ≡ 83 → is_ascii_alphabetic b ≡ true
 letter_of b e = grind (arith, nat_tests)
 
@@ -76,6 +81,7 @@ record SheetAndPlain (piece : List ℕ) (sheet : ℕ) : Type 0 where
   spelled : capitals front ≡ sheet_capitals (Some sheet)
   plain : IsPlain back
 
+-- a reference with a sheet is the sheet and a reference without one
 sheet_and_plain : (piece : List ℕ) (r : RefText) (sheet : ℕ) → capitals piece ≡ reference_capitals r → IsReference r → r.sheet ≡ Some sheet → SheetAndPlain piece sheet
 sheet_and_plain piece r sheet e inside is =
     let s = sheet_capitals (Some sheet) in
@@ -94,9 +100,11 @@ sheet_and_plain piece r sheet e inside is =
       };
     }
 
+-- the sheet of a reference inside the grid
 sheet_bounds : (r : RefText) (sheet : ℕ) → IsReference r → r.sheet ≡ Some sheet → (1 ≤ sheet) × (sheet ≤ 64)
 sheet_bounds r sheet inside is = let o = ap (λ o. unwrap_or o 1) is in (omega (arith, inside.sheet.0, o), omega (arith, inside.sheet.1, o))
 
+-- no reference with a sheet goes on with more than a name or a reference begins with
 sheet_reference_most : (text more : List ℕ) (r : RefText) (sheet m : ℕ) → m ≤ length text → capitals (take m text ++ more) ≡ reference_capitals r → IsReference r → r.sheet ≡ Some sheet → (m ≤ name_begun text) ⊎ (m ≤ reference_begun text)
 sheet_reference_most text more r sheet m inside e fits is =
     let p = sheet_and_plain (take m text ++ more) r sheet e fits is in

@@ -1,12 +1,12 @@
 -- A reference at the front of a text, as its bytes in upper case.
-use Rattle.std.proofs.Common.{◌≡◌, ℕ, suc, ◌+◌, ◌-◌, ◌<◌, ◌≤◌, ◌^◌, Bool, true, false, not, cond, ◌||◌, ◌&&◌, eqb, List, [], ◌∷◌, ◌++◌, length, take, drop, take_while, slice_index, Option, Some, None, option_map, unwrap_or, codes, decimal, refl, sym, ap, subst, ◌∙◌, arith, ◌⊎◌, inl, inr, ⊎_elim}
-use Rattle.std.proofs.lemmas.Bool.{cases_Bool, cond-true, cond-false, and_parts, and_from, or_left, or_right, or_parts, lt-leb, and_left, and_right}
+use Rattle.std.proofs.Common.{◌≡◌, ℕ, ◌-◌, ◌<◌, ◌≤◌, ◌^◌, Bool, true, false, not, ◌||◌, eqb, List, [], ◌∷◌, ◌++◌, length, take, drop, slice_index, Option, Some, None, option_map, unwrap_or, codes, decimal, refl, sym, ap, subst, ◌∙◌, arith}
+use Rattle.std.proofs.lemmas.Bool.{and_parts, and_from, or_left, or_right}
 use Rattle.std.proofs.lemmas.Bool.Decides.{nat_tests}
-use Rattle.std.proofs.lemmas.Fmt.{digits_decimal, decimal_nonempty}
-use Rattle.std.proofs.lemmas.List.{length-append, length-map, length-take, map-append, take-append-drop, take-map, drop-map, append-nil}
+use Rattle.std.proofs.lemmas.Fmt.{digits_decimal}
+use Rattle.std.proofs.lemmas.List.{length-append, length-map, map-append, take-append-drop, take-map, drop-map, append-nil}
 use Rattle.std.proofs.lemmas.List.Folds.{list_all-append}
 use Rattle.std.proofs.Math.Seq.{drop-append_seam, take-append_seam}
-use Rattle.std.specs.Char.{is_ascii_digit, is_ascii_uppercase, is_ascii_alphabetic, to_ascii_uppercase}
+use Rattle.std.specs.Char.{is_ascii_digit, is_ascii_uppercase, to_ascii_uppercase}
 use Rattle.std.specs.List.{list_all}
 use Rattle.std.specs.Str.{all_ascii_digits}
 use Rattle.cell_refs.specs.declared.references.RefText.{RefText}
@@ -16,8 +16,9 @@ use Rattle.cell_refs.specs.Written.{capitals, reference_at, mark, column_letters
 use Rattle.cell_refs.proofs.BothWays.{reference_again, reference_takes, reference_capitals, sheet_capitals}
 use Rattle.cell_refs.proofs.Columns.{letters_begin}
 use Rattle.cell_refs.proofs.Numerals.{numerals}
-use Rattle.formula_parse.proofs.LexFirst.{first_passes, passes_first, begins_word}
+use Rattle.formula_parse.proofs.LexFirst.{first_passes, begins_word}
 
+-- a digit is one in upper case too
 digit_upper : (c : ℕ) → is_ascii_digit (to_ascii_uppercase c) ≡ is_ascii_digit c
 digit_upper c = grind (arith, nat_tests)
 
@@ -36,6 +37,7 @@ pub record Refers (text : List ℕ) (r : RefText) (n : ℕ) : Type 0 where
   pub inside : IsReference r
   pub stops : first_passes is_ascii_digit rest ≡ false
 
+-- a reference from its bytes in upper case
 refers_from : (text : List ℕ) (r : RefText) (rest : List ℕ) → capitals text ≡ reference_capitals r ++ rest → IsReference r → is_ascii_digit (slice_index rest 0) ≡ false → Refers text r (length text - length rest)
 refers_from text r rest e inside stops =
     let n = length (reference_capitals r) in
@@ -72,6 +74,7 @@ reference_joined piece rest r e inside stops =
     let count : length (piece ++ rest) - length (capitals rest) ≡ length piece = omega (arith, length-append piece rest, length-map rest to_ascii_uppercase) in
     rw (read, count) refl
 
+-- what is written whole is read whole
 pub reference_whole : (piece : List ℕ) (r : RefText) → capitals piece ≡ reference_capitals r → IsReference r → reference_at piece ≡ Some (r, length piece)
 reference_whole piece r e inside = ap reference_at (sym (append-nil piece)) ∙ reference_joined piece [] r e inside refl
 
@@ -92,24 +95,30 @@ piece_refers piece r e =
 abbrev pub is_reference_byte : ℕ → Bool
 is_reference_byte c = is_ascii_uppercase c || (is_ascii_digit c || (eqb c 36 || eqb c 33))
 
+-- letters are bytes of a reference
 letters_are : (xs : List ℕ) → list_all is_ascii_uppercase xs ≡ true → list_all is_reference_byte xs ≡ true
 letters_are [] h = refl
 letters_are (c ∷ cs) h = let p = and_parts _ _ h in and_from _ _ (or_left _ _ p.0) (letters_are cs p.1)
 
+-- digits are bytes of a reference
 digits_are : (xs : List ℕ) → all_ascii_digits xs ≡ true → list_all is_reference_byte xs ≡ true
 digits_are [] h = refl
 digits_are (c ∷ cs) h = let p = and_parts (is_ascii_digit c) (all_ascii_digits cs) h in and_from _ _ (or_right (is_ascii_uppercase c) _ (or_left _ _ p.0)) (digits_are cs p.1)
 
+-- a `$` is a byte of a reference
 mark_is : (b : Bool) → list_all is_reference_byte (mark b) ≡ true
 mark_is true = refl
 mark_is false = refl
 
+-- two pieces of such bytes
 both_are : (xs ys : List ℕ) → list_all is_reference_byte xs ≡ true → list_all is_reference_byte ys ≡ true → list_all is_reference_byte (xs ++ ys) ≡ true
 both_are xs ys e f = list_all-append is_reference_byte xs ys ∙ and_from _ _ e f
 
+-- the decimals of a number are bytes of a reference
 decimal_are : (n : ℕ) → n < 2 ^ 64 → list_all is_reference_byte (decimal n) ≡ true
 decimal_are n room = digits_are (decimal n) (digits_decimal numerals n room)
 
+-- a sheet has bytes of a reference alone
 sheet_is : (o : Option ℕ) → unwrap_or o 1 ≤ 64 → list_all is_reference_byte (sheet_capitals o) ≡ true
 sheet_is None small = refl
 sheet_is (Some sheet) small = both_are (codes "SHEET") (decimal sheet ++ codes "!") refl (both_are (decimal sheet) (codes "!") (decimal_are sheet (omega arith)) refl)
@@ -129,27 +138,33 @@ reference_bytes r inside =
 abbrev begins : ℕ → Bool
 begins c = is_ascii_uppercase c || eqb c 36
 
+-- letters begin a reference
 letters_first : (xs more : List ℕ) → list_all is_ascii_uppercase xs ≡ true → 1 ≤ length xs → first_passes begins (xs ++ more) ≡ true
 letters_first [] more all some = absurd (omega arith)
 letters_first (c ∷ cs) more all some = or_left _ _ (and_parts (is_ascii_uppercase c) _ all).0
 
+-- so do letters behind a `$`
 column_first : (b : Bool) (xs more : List ℕ) → list_all is_ascii_uppercase xs ≡ true → 1 ≤ length xs → first_passes begins (mark b ++ (xs ++ more)) ≡ true
 column_first true xs more all some = refl
 column_first false xs more all some = letters_first xs more all some
 
+-- so does a sheet
 sheet_first : (o : Option ℕ) (more : List ℕ) → first_passes begins more ≡ true → first_passes begins (sheet_capitals o ++ more) ≡ true
 sheet_first None more h = h
 sheet_first (Some sheet) more h = refl
 
+-- a reference in upper case begins with a letter or a `$`
 reference_first : (r : RefText) → IsReference r → first_passes begins (reference_capitals r) ≡ true
 unfolding reference_capitals
 reference_first r inside =
     let l = letters_begin r.col inside.col.0 inside.col.1 in
     sheet_first r.sheet _ (column_first r.col_fixed (column_letters r.col) _ l.0 l.1)
 
+-- what begins a reference in upper case begins one in any case
 begins_upper : (b : ℕ) → begins (to_ascii_uppercase b) ≡ true → begins_word b ≡ true
 begins_upper b h = grind (arith, nat_tests)
 
+-- the first byte of a text in upper case
 first_upper : (piece : List ℕ) → first_passes begins (capitals piece) ≡ true → (b : ℕ) × (bs : List ℕ) × (piece ≡ b ∷ bs) × (begins_word b ≡ true)
 first_upper [] h = absurd (cc)
 first_upper (b ∷ bs) h = (b, bs, refl, begins_upper b h)
@@ -158,9 +173,11 @@ first_upper (b ∷ bs) h = (b, bs, refl, begins_upper b h)
 pub reference_begins : (piece : List ℕ) (r : RefText) → capitals piece ≡ reference_capitals r → IsReference r → (b : ℕ) × (bs : List ℕ) × (piece ≡ b ∷ bs) × (begins_word b ≡ true)
 reference_begins piece r e inside = first_upper piece (ap (first_passes begins) e ∙ reference_first r inside)
 
+-- a byte of a reference is no `(`
 byte_no_open : (b : ℕ) → is_reference_byte (to_ascii_uppercase b) ≡ true → eqb b 40 ≡ false
 byte_no_open b h = grind (arith, nat_tests)
 
+-- bytes of a reference have no `(`
 bytes_no_open : (piece : List ℕ) → list_all is_reference_byte (capitals piece) ≡ true → list_all (λ b. not (eqb b 40)) piece ≡ true
 bytes_no_open [] h = refl
 bytes_no_open (b ∷ bs) h = let p = and_parts (is_reference_byte (to_ascii_uppercase b)) _ h in and_from _ _ (ap not (byte_no_open b p.0)) (bytes_no_open bs p.1)

@@ -1,16 +1,12 @@
 -- The row of a reference, byte by byte.
-use Rattle.std.proofs.Common.{◌≡◌, ℕ, ◌+◌, ◌-◌, ◌*◌, ◌<◌, ◌≤◌, Bool, true, false, cond, ◌&&◌, if◌then◌else◌, eqb, ◌==◌, nat_lt, nat_le, List, [], ◌∷◌, ◌++◌, length, drop, fold, take_while, Option, Some, None, option_and_then, option_map, refl, sym, ap, ◌∙◌, arith, ltb-true, leb-true, le-leb, lt-ltb, slice_index, codes, eqb-true, ◌⊎◌, ⊎_elim, inl, inr, le_trans}
+use Rattle.std.proofs.Common.{◌≡◌, ℕ, ◌+◌, ◌-◌, ◌*◌, ◌<◌, ◌≤◌, Bool, true, false, ◌&&◌, if◌then◌else◌, ◌==◌, nat_lt, nat_le, List, [], ◌∷◌, length, drop, take_while, Option, Some, None, option_and_then, refl, sym, ap, ◌∙◌, arith, ltb-true, leb-true, le-leb, lt-ltb, slice_index, ⊎_elim, le_trans}
 use Rattle.std.specs.Char.{is_ascii_digit, is_ascii_alphabetic, is_ascii_uppercase, to_ascii_uppercase, digit_value}
-use Rattle.std.specs.Option.{option_map_or}
 use Rattle.std.specs.Str.Parse.{digits_value, digits_value_after}
 use Rattle.std.proofs.lemmas.Bool.Decides.{nat_tests}
-use Rattle.std.proofs.lemmas.Bool.{and_parts, and_from, and_left, cases_Bool, cond-true, cond-false}
-use Rattle.std.specs.List.{list_all, prefix_len}
-use Rattle.std.proofs.lemmas.List.Folds.{length-prefix_len}
+use Rattle.std.proofs.lemmas.Bool.{and_parts, and_from, cases_Bool, cond-true, cond-false}
 use Rattle.std.proofs.lemmas.List.Sums.{take_while-cons}
-use Rattle.std.proofs.lemmas.Option.{cond_some, option_and_then_some, same_Some}
-use Rattle.cell_refs.specs.declared.references.RefText.{RefText}
-use Rattle.cell_refs.specs.Reading.{number_at, mark_at, column_at, column_number, rest_after, sheet_number_at, sheet_at, reference_in, ◌>>=◌}
+use Rattle.std.proofs.lemmas.Option.{cond_some, option_and_then_some}
+use Rattle.cell_refs.specs.Reading.{number_at}
 use Rattle.cell_refs.specs.Written.{capitals}
 
 -- how far a reference without a sheet has been read: nothing, the `$` of its column, letters that name a column so far, the `$` of its row, or digits of a row
@@ -47,19 +43,24 @@ run s [] = Some s
 run s (b ∷ bs) = option_and_then (λ t. run t bs) (next_step s b)
 
 -- ---- one byte
+-- a digit is one in upper case too
 pub digit_upper : (b : ℕ) → is_ascii_digit (to_ascii_uppercase b) ≡ is_ascii_digit b
 digit_upper b = grind (arith, nat_tests)
 
+-- a letter is a capital one in upper case
 pub letter_upper : (b : ℕ) → is_ascii_uppercase (to_ascii_uppercase b) ≡ is_ascii_alphabetic b
 letter_upper b = grind (arith, nat_tests)
 
+-- a digit stays in upper case
 pub upper_digit : (b : ℕ) → is_ascii_digit b ≡ true → to_ascii_uppercase b ≡ b
 upper_digit b d = grind (arith, nat_tests)
 
+-- a digit goes on with a row inside the grid
 pub row_step : (n b : ℕ) → is_ascii_digit b ≡ true → 0 < 10 * n + (b - 48) → 10 * n + (b - 48) ≤ 1048576 → row_after n b ≡ Some (Row (10 * n + (b - 48)))
 row_step n b d low high =
     cond-true _ _ _ (and_from _ _ d (and_from _ _ (lt-ltb _ _ low) (le-leb _ _ high)))
 
+-- what goes on with a row is a digit inside the grid
 pub row_step_parts : (n b : ℕ) (s : Step) → row_after n b ≡ Some s → (is_ascii_digit b ≡ true) × (0 < 10 * n + (b - 48)) × (10 * n + (b - 48) ≤ 1048576) × (Row (10 * n + (b - 48)) ≡ s)
 row_step_parts n b s h =
     let p = cond_some _ _ _ h in
@@ -67,9 +68,11 @@ row_step_parts n b s h =
     let r = and_parts _ _ q.1 in
     (q.0, ltb-true _ _ r.0, leb-true _ _ r.1, p.1)
 
+-- a letter goes on with a column inside the grid
 pub column_step : (n b : ℕ) → is_ascii_alphabetic b ≡ true → 26 * n + (to_ascii_uppercase b - 64) ≤ 16384 → column_after n b ≡ Some (Column (26 * n + (to_ascii_uppercase b - 64)))
 column_step n b l high = cond-true _ _ _ (and_from _ _ l (le-leb _ _ high))
 
+-- what goes on with a column is a letter inside the grid
 pub column_step_parts : (n b : ℕ) (s : Step) → column_after n b ≡ Some s → (is_ascii_alphabetic b ≡ true) × (26 * n + (to_ascii_uppercase b - 64) ≤ 16384) × (Column (26 * n + (to_ascii_uppercase b - 64)) ≡ s)
 column_step_parts n b s h =
     let p = cond_some _ _ _ h in
@@ -77,37 +80,46 @@ column_step_parts n b s h =
     (q.0, leb-true _ _ q.1, p.1)
 
 -- ---- rows
+-- the value of a digit
 pub digit_is : (b : ℕ) → is_ascii_digit b ≡ true → digit_value (to_ascii_uppercase b) ≡ b - 48
 digit_is b d = grind (arith, nat_tests)
 
 -- ---- the front of a list that passes a test, and the rest
+-- a byte that passes is in the front
 pub span_yes : (p : ℕ → Bool) (x : ℕ) (xs : List ℕ) → p x ≡ true → (take_while p (x ∷ xs) ≡ x ∷ take_while p xs) × (drop (length (take_while p (x ∷ xs))) (x ∷ xs) ≡ drop (length (take_while p xs)) xs)
 span_yes p x xs h =
     let e : take_while p (x ∷ xs) ≡ x ∷ take_while p xs = take_while-cons p x xs ∙ cond-true (p x) _ _ h in
     (e, ap (λ t. drop (length t) (x ∷ xs)) e)
 
+-- a byte that doesn't pass ends the front
 pub span_no : (p : ℕ → Bool) (x : ℕ) (xs : List ℕ) → p x ≡ false → (take_while p (x ∷ xs) ≡ []) × (drop (length (take_while p (x ∷ xs))) (x ∷ xs) ≡ x ∷ xs)
 span_no p x xs h =
     let e : take_while p (x ∷ xs) ≡ [] = take_while-cons p x xs ∙ cond-false (p x) _ _ h in
     (e, ap (λ t. drop (length t) (x ∷ xs)) e)
 
+-- the digits at the front
 abbrev pub digits : List ℕ → List ℕ
 digits w = take_while is_ascii_digit (capitals w)
 
+-- what follows the digits
 abbrev pub after_digits : List ℕ → List ℕ
 after_digits w = drop (length (digits w)) (capitals w)
 
+-- the letters at the front
 abbrev pub letters : List ℕ → List ℕ
 letters w = take_while is_ascii_uppercase (capitals w)
 
+-- what follows the letters
 abbrev pub after_letters : List ℕ → List ℕ
 after_letters w = drop (length (letters w)) (capitals w)
 
 -- ---- rows
+-- digits only make a number greater
 pub value_grows : (n : ℕ) (ds : List ℕ) → n ≤ digits_value_after 10 n ds
 value_grows n [] = omega arith
 value_grows n (d ∷ ds) = let h = value_grows (n * 10 + digit_value d) ds in omega arith
 
+-- digits inside the grid are read byte for byte
 pub row_forth : (n : ℕ) (w : List ℕ) → 0 < n → after_digits w ≡ [] → digits_value_after 10 n (digits w) ≤ 1048576 → run (Row n) w ≡ Some (Row (digits_value_after 10 n (digits w)))
 unfolding next_step
 row_forth n [] some all low = refl
@@ -123,9 +135,11 @@ row_forth n (b ∷ bs) some all low = ⊎_elim
     (λ no. let s = span_no is_ascii_digit (to_ascii_uppercase b) (capitals bs) no in let t = sym s.1 ∙ all in cc)
     (cases_Bool (is_ascii_digit (to_ascii_uppercase b)))
 
+-- digits alone, which name this row inside the grid
 abbrev pub RowOf : ℕ → List ℕ → Step → Type 0
 RowOf n w s = (after_digits w ≡ []) × (s ≡ Row (digits_value_after 10 n (digits w))) × (n ≤ 1048576 → digits_value_after 10 n (digits w) ≤ 1048576)
 
+-- what is read byte for byte is digits inside the grid
 pub row_back : (n : ℕ) (w : List ℕ) (s : Step) → run (Row n) w ≡ Some s → RowOf n w s
 unfolding next_step
 row_back n [] s h = (refl, cc, λ small. small)
@@ -140,6 +154,7 @@ row_back n (b ∷ bs) s h =
     (sp.1 ∙ q.0, q.1 ∙ ap Row (sym v), λ _. omega arith))
 
 -- ---- the parts of what the readers of references answer
+-- what a number that is read consists of
 pub number_parts : (limit : ℕ) (text : List ℕ) (row : ℕ) (rest : List ℕ) → number_at limit text ≡ Some (row, rest) → (48 < slice_index (take_while is_ascii_digit text) 0) × (digits_value 10 (take_while is_ascii_digit text) ≤ limit) × (digits_value 10 (take_while is_ascii_digit text) ≡ row) × (drop (length (take_while is_ascii_digit text)) text ≡ rest)
 unfolding number_at
 number_parts limit text row rest h =
@@ -147,6 +162,7 @@ number_parts limit text row rest h =
     let q = and_parts _ _ p.0 in
     (ltb-true _ _ q.0, leb-true _ _ q.1, ap (λ x. x.0) p.1, ap (λ x. x.1) p.1)
 
+-- a number that is read, from its parts
 pub number_from : (limit : ℕ) (text : List ℕ) → 48 < slice_index (take_while is_ascii_digit text) 0 → digits_value 10 (take_while is_ascii_digit text) ≤ limit → number_at limit text ≡ Some (digits_value 10 (take_while is_ascii_digit text), drop (length (take_while is_ascii_digit text)) text)
 unfolding number_at
 number_from limit text low high = cond-true _ _ _ (and_from _ _ (lt-ltb _ _ low) (le-leb _ _ high))
@@ -178,9 +194,11 @@ number_forth (b ∷ bs) row h =
     let step = row_step 0 b d.0 (omega (arith, d.1)) (le_trans (value_grows _ (digits bs)) small) in
     (b, bs, refl, d.0, ap (option_and_then (λ t. run t bs)) step ∙ row_forth (10 * 0 + (b - 48)) bs (omega (arith, d.1)) (sym sp.1 ∙ p.3) small ∙ ap (λ m. Some (Row m)) (sym v ∙ p.2))
 
+-- one row has one number
 pub same_row : (a b : ℕ) → Row a ≡ Row b → a ≡ b
 same_row a b h = cc
 
+-- what is read byte for byte is a number
 pub number_back : (c : ℕ) (cs : List ℕ) (row : ℕ) → run (Row 0) (c ∷ cs) ≡ Some (Row row) → (is_ascii_digit c ≡ true) × (number_at 1048576 (capitals (c ∷ cs)) ≡ Some (row, []))
 unfolding next_step
 number_back c cs row h =

@@ -1,29 +1,20 @@
 -- How much of a text a reference begins with.
-use Rattle.std.proofs.Common.{◌≡◌, ℕ, ◌+◌, ◌-◌, ◌<◌, ◌≤◌, ◌^◌, zero, suc, Bool, true, false, cond, ◌&&◌, ◌||◌, eqb, List, [], ◌∷◌, ◌++◌, length, take, drop, take_while, slice_index, Option, Some, None, IfSome, unwrap_or, codes, decimal, refl, sym, ap, subst, ◌∙◌, arith, ◌⊎◌, inl, inr, ⊎_elim}
-use Rattle.std.proofs.lemmas.Bool.{cases_Bool, cond-true, cond-false, and_parts, and_from, or_left, or_right, cases_lt}
-use Rattle.std.proofs.lemmas.Bool.Decides.{nat_tests}
-use Rattle.std.proofs.lemmas.Fmt.{digits_decimal, length-decimal-le}
-use Rattle.std.proofs.lemmas.List.{length-append, length-map, length-take-le, map-append, take-append-drop, take-map, drop-map, append_assoc, append-nil}
-use Rattle.std.proofs.lemmas.List.Folds.{list_all-append}
+use Rattle.std.proofs.Common.{◌≡◌, ℕ, ◌+◌, ◌-◌, ◌<◌, ◌≤◌, suc, List, [], ◌∷◌, ◌++◌, length, take, drop, Option, Some, None, IfSome, unwrap_or, codes, decimal, refl, sym, ap, ◌∙◌, arith, ⊎_elim}
+use Rattle.std.proofs.lemmas.Bool.{cases_lt}
+use Rattle.std.proofs.lemmas.List.{length-append, length-map, map-append, take-append-drop, take-map, append_assoc, append-nil}
 use Rattle.std.proofs.lemmas.Option.{none-some}
 use Rattle.std.proofs.Math.Seq.{drop-append_seam, take-append_seam, take-append-add}
-use Rattle.std.specs.Char.{is_ascii_digit, is_ascii_alphabetic, is_ascii_uppercase, to_ascii_uppercase}
-use Rattle.std.specs.List.{list_all}
-use Rattle.std.specs.Str.{all_ascii_digits}
+use Rattle.std.specs.Char.{is_ascii_uppercase, to_ascii_uppercase}
 use Rattle.cell_refs.specs.declared.references.RefText.{RefText}
-use Rattle.cell_refs.specs.Reading.{reference_in, sheet_at, sheet_number_at, number_at, mark_at, column_at, rest_after, ◌>>=◌}
+use Rattle.cell_refs.specs.Reading.{reference_in, sheet_at, sheet_number_at, number_at, mark_at, column_at, rest_after}
 use Rattle.cell_refs.specs.RefText.{IsReference}
-use Rattle.cell_refs.specs.Written.{capitals, reference_at, mark, column_letters}
+use Rattle.cell_refs.specs.Written.{capitals, mark, column_letters}
 use Rattle.cell_refs.proofs.BothWays.{reference_again, reference_capitals, sheet_capitals, sheet_takes}
 use Rattle.cell_refs.proofs.Numbers.{number_again}
-use Rattle.cell_refs.proofs.Numerals.{numerals}
-use Rattle.cell_values.specs.Name.{is_name_byte}
 use Rattle.formula_parse.specs.declared.tokens.Token.TheVariants as tokens
-use Rattle.formula_parse.specs.Lexing.{name_begun, sheet_len, reference_begun, plain_begun}
+use Rattle.formula_parse.specs.Lexing.{sheet_len, reference_begun, plain_begun}
 use Rattle.formula_parse.specs.Tokens.{Writes}
 use Rattle.formula_parse.proofs.LexCorners.{IsPlain, plain_goes_on, plain_most, plain_within}
-use Rattle.formula_parse.proofs.LexFronts.{Inside, Beyond, compared}
-use Rattle.formula_parse.proofs.LexNameFronts.{name_most}
 use Rattle.formula_parse.proofs.LexPlain.{reference_parts, no_sheet, sheet_is}
 use Rattle.formula_parse.proofs.LexReferences.{reference_whole}
 use Rattle.formula_parse.proofs.LexWritten.{column_none, front_short}
@@ -38,6 +29,7 @@ record SheetFront (text : List ℕ) : Type 0 where
   fits : IfSome sheet (λ sheet. (1 ≤ sheet) × (sheet ≤ 64))
   count : sheet_len text (sheet_at (capitals text)) ≡ length front
 
+-- each text has its sheet at the front, or none
 sheet_front : (text : List ℕ) → SheetFront text
 sheet_front text = by_sheet (sheet_at (capitals text)) refl
   where
@@ -63,6 +55,7 @@ reference_begun_is text front back whole count =
     let left : drop (length front) text ≡ back = ap (drop (length front)) whole ∙ drop-append_seam front back in
     ap (λ n. n + plain_begun (drop n text)) count ∙ ap (λ x. length front + plain_begun x) left
 
+-- what begins a reference is no more than the text
 pub reference_within : (text : List ℕ) → reference_begun text ≤ length text
 reference_within text =
     let f = sheet_front text in
@@ -78,19 +71,23 @@ on_sheet o r = record { sheet = o; row = r.row; col = r.col; row_fixed = r.row_f
 abbrev pub behind_sheet : RefText → List ℕ
 behind_sheet r = mark r.col_fixed ++ (column_letters r.col ++ (mark r.row_fixed ++ decimal r.row))
 
+-- a reference on a sheet is written behind it
 pub sheet_and : (o : Option ℕ) (r : RefText) → reference_capitals (on_sheet o r) ≡ sheet_capitals o ++ behind_sheet r
 unfolding reference_capitals
 sheet_and o r = refl
 
+-- a reference is its sheet and what is written behind it
 pub own_sheet : (r : RefText) → reference_capitals r ≡ sheet_capitals r.sheet ++ behind_sheet r
 unfolding reference_capitals
 own_sheet r = refl
 
+-- a reference without a sheet behind a sheet is one on that sheet
 with_sheet : (front piece : List ℕ) (o : Option ℕ) (r : RefText) → r.sheet ≡ None → capitals front ≡ sheet_capitals o → capitals piece ≡ reference_capitals r → capitals (front ++ piece) ≡ reference_capitals (on_sheet o r)
 with_sheet front piece o r none e f =
     let plain : capitals piece ≡ behind_sheet r = f ∙ (own_sheet r ∙ ap (λ s. sheet_capitals s ++ behind_sheet r) none) in
     map-append to_ascii_uppercase front piece ∙ (ap (λ x. x ++ capitals piece) e ∙ (ap (λ x. sheet_capitals o ++ x) plain ∙ sym (sheet_and o r)))
 
+-- the sheet of a reference inside the grid, or the first
 pub sheet_fits : (o : Option ℕ) → IfSome o (λ sheet. (1 ≤ sheet) × (sheet ≤ 64)) → (1 ≤ unwrap_or o 1) × (unwrap_or o 1 ≤ 64)
 sheet_fits None fits = (omega arith, omega arith)
 sheet_fits (Some sheet) fits = fits
@@ -109,16 +106,19 @@ reference_goes_on text =
     (p.0, r, reference_whole (take (reference_begun text) text ++ p.0) r (ap capitals piece ∙ with_sheet f.front (take k f.back ++ p.0) f.sheet p.1.reference p.1.no_sheet f.spelled p.1.spelled) inside)
 
 -- ---- no longer front
+-- the number of a sheet with its `!` is read
 sheet_number_there : (sheet : ℕ) (rest : List ℕ) → 1 ≤ sheet → sheet ≤ 64 → sheet_number_at (decimal sheet ++ (codes "!" ++ rest)) ≡ Some (Some sheet, rest)
 unfolding sheet_number_at
 sheet_number_there sheet rest some small =
     let read : number_at 64 (decimal sheet ++ (codes "!" ++ rest)) ≡ Some (sheet, codes "!" ++ rest) = number_again 64 sheet (codes "!" ++ rest) (omega arith) some small refl in
     rw read refl
 
+-- a sheet with its `!` is read
 sheet_there : (sheet : ℕ) (rest : List ℕ) → 1 ≤ sheet → sheet ≤ 64 → sheet_at (sheet_capitals (Some sheet) ++ rest) ≡ Some (Some sheet, rest)
 unfolding sheet_at
 sheet_there sheet rest some small = ap sheet_number_at (append_assoc (decimal sheet) (codes "!") rest) ∙ sheet_number_there sheet rest some small
 
+-- the length of a sheet that stands at the front
 pub sheet_counted : (text front back : List ℕ) (sheet : ℕ) → text ≡ front ++ back → capitals front ≡ sheet_capitals (Some sheet) → 1 ≤ sheet → sheet ≤ 64 → sheet_len text (sheet_at (capitals text)) ≡ length front
 sheet_counted text front back sheet whole e some small =
     let upper : capitals text ≡ sheet_capitals (Some sheet) ++ capitals back = ap capitals whole ∙ (map-append to_ascii_uppercase front back ∙ ap (λ x. x ++ capitals back) e) in
@@ -136,9 +136,11 @@ no_word y r h none =
     let at : column_at (mark_at q.0.1).1 ≡ None = ap (λ x. column_at (mark_at x).1) text ∙ column_none u many in
     none-some {A = ℕ × List ℕ} q.1 (sym at ∙ q.4)
 
+-- what is at least four is four more than something
 four_of : (m : ℕ) → 4 ≤ m → (j : ℕ) × (m ≡ suc (suc (suc (suc j))))
 four_of m h = (m - 4, omega arith)
 
+-- a reference without a sheet is read
 plain_in : (piece : List ℕ) (p : IsPlain piece) → reference_in (capitals piece) ≡ Some (p.reference, [])
 plain_in piece p = ap reference_in (p.spelled ∙ sym (append-nil (reference_capitals p.reference))) ∙ reference_again p.reference [] p.inside refl
 
@@ -152,10 +154,12 @@ plain_short text more z m e p = ⊎_elim (λ less. less)
     absurd (no_word (take j.0 (84 ∷ z) ++ capitals more) p.reference (ap reference_in (sym four) ∙ plain_in (take m text ++ more) p) p.no_sheet))
     (cases_lt m 4)
 
+-- what has no length is empty
 empty_front : (front : List ℕ) → length front ≡ 0 → front ≡ []
 empty_front [] e = refl
 empty_front (c ∷ cs) e = absurd (omega arith)
 
+-- no reference without a sheet goes on with more than a reference begins with
 pub plain_reference_most : (text more : List ℕ) (m : ℕ) → m ≤ length text → IsPlain (take m text ++ more) → m ≤ reference_begun text
 plain_reference_most text more m inside p = by_sheet (sheet_front text)
   where

@@ -1,11 +1,10 @@
 -- How much of a text a written text begins with.
-use Rattle.std.proofs.Common.{◌≡◌, ℕ, ◌+◌, ◌-◌, ◌<◌, ◌≤◌, zero, suc, Bool, true, false, not, cond, ◌&&◌, ◌||◌, eqb, List, [], ◌∷◌, ◌++◌, length, take, drop, Option, Some, None, option_map, refl, sym, ap, subst, ◌∙◌, arith, ⊎_elim, add-one, eqb-true}
+use Rattle.std.proofs.Common.{◌≡◌, ℕ, ◌+◌, ◌≤◌, zero, suc, Bool, true, false, cond, ◌||◌, eqb, List, [], ◌∷◌, ◌++◌, length, take, Option, Some, None, option_map, refl, sym, ap, subst, ◌∙◌, arith, ⊎_elim, add-one, eqb-true}
 use Rattle.std.proofs.lemmas.Bool.{cases_Bool, cond-true, cond-false, or_parts, or_from}
-use Rattle.std.proofs.lemmas.Bool.Decides.{nat_tests}
 use Rattle.std.proofs.lemmas.List.Folds.{list_any-append}
 use Rattle.std.specs.Char.{is_ascii_control}
 use Rattle.std.specs.List.{list_any, position_or_len}
-use Rattle.cell_values.specs.Word.{doubled, byte_within, quoted}
+use Rattle.cell_values.specs.Word.{doubled, byte_within}
 use Rattle.formula_parse.specs.declared.tokens.Token.{Token}
 use Rattle.formula_parse.specs.declared.tokens.Token.TheVariants as tokens
 use Rattle.formula_parse.specs.Lexing.{content_at, text_found}
@@ -15,12 +14,15 @@ use Rattle.formula_parse.specs.Tokens.{Writes}
 abbrev clean : List ℕ → ℕ
 clean rest = position_or_len is_ascii_control rest
 
+-- a control character ends what is clean
 clean_stops : (c : ℕ) (cs : List ℕ) → is_ascii_control c ≡ true → clean (c ∷ cs) ≡ 0
 clean_stops c cs h = rw h refl
 
+-- another byte goes on with it
 clean_goes_on : (c : ℕ) (cs : List ℕ) → is_ascii_control c ≡ false → clean (c ∷ cs) ≡ suc (clean cs)
 clean_goes_on c cs h = rw h (omega arith)
 
+-- what is clean is no more than the text
 pub clean_within : (rest : List ℕ) → clean rest ≤ length rest
 clean_within [] = omega arith
 clean_within (c ∷ cs) = ⊎_elim
@@ -34,12 +36,15 @@ record Opens (rest : List ℕ) : Type 0 where
   spelled : take (clean rest) rest ≡ doubled content
   fine : list_any is_ascii_control content ≡ false
 
+-- a control character ends an open text
 opens_stopped : (c : ℕ) (cs : List ℕ) → is_ascii_control c ≡ true → Opens (c ∷ cs)
 opens_stopped c cs y = record { content = []; spelled = ap (λ n. take n (c ∷ cs)) (clean_stops c cs y); fine = refl }
 
+-- a byte that is no `"` stays one
 doubled_other : (c : ℕ) (content : List ℕ) → eqb c 34 ≡ false → doubled (c ∷ content) ≡ c ∷ doubled content
 doubled_other c content e = ap (λ b. cond b (34 ∷ 34 ∷ []) (c ∷ []) ++ doubled content) e
 
+-- a byte that is neither goes on with an open text
 opens_other : (c : ℕ) (cs : List ℕ) → is_ascii_control c ≡ false → eqb c 34 ≡ false → Opens cs → Opens (c ∷ cs)
 opens_other c cs n q f = record {
   content = c ∷ f.content;
@@ -47,6 +52,7 @@ opens_other c cs n q f = record {
   fine = or_from _ _ n f.fine;
 }
 
+-- so does a doubled `"`
 opens_doubled : (cs : List ℕ) → Opens cs → Opens (34 ∷ 34 ∷ cs)
 opens_doubled cs f = record {
   content = 34 ∷ f.content;
@@ -58,6 +64,7 @@ opens_doubled cs f = record {
 abbrev Missing : Option (List ℕ × ℕ) → Type 0
 Missing o = text_found o ≡ None
 
+-- what is missing though it is closed has a control character
 missing_parts : (found : List ℕ × ℕ) → Missing (Some found) → list_any is_ascii_control found.0 ≡ true
 missing_parts found h = by_test (list_any is_ascii_control found.0) h
   where
@@ -65,6 +72,7 @@ missing_parts found h = by_test (list_any is_ascii_control found.0) h
     by_test true h = refl
     by_test false h = absurd (cc)
 
+-- what has a control character is missing
 missing_from : (found : List ℕ × ℕ) → list_any is_ascii_control found.0 ≡ true → Missing (Some found)
 missing_from found h = cond-true _ _ _ h
 
@@ -74,6 +82,7 @@ missing_more c k None n h = refl
 missing_more c k (Some found) n h =
     missing_from found (sym (ap (λ b. b || list_any is_ascii_control found.0) n) ∙ missing_parts (c ∷ found.0, found.1 + k) h)
 
+-- the same behind a doubled `"`
 missing_doubled : (o : Option (List ℕ × ℕ)) → Missing (option_map {T = List ℕ × ℕ} {U = List ℕ × ℕ} (λ found. (34 ∷ found.0, found.1 + 2)) o) → Missing o
 missing_doubled o h = missing_more 34 2 o refl h
 
@@ -110,6 +119,7 @@ text_goes_on rest h =
     (f.content, (ap (λ n. take n (34 ∷ rest) ++ 34 ∷ []) (add-one (clean rest)) ∙ ap (λ x. 34 ∷ (x ++ 34 ∷ [])) f.spelled, f.fine))
 
 -- ---- no longer front
+-- what has no control character is no more than what is clean
 clean_most : (rest : List ℕ) (n : ℕ) → n ≤ length rest → list_any is_ascii_control (take n rest) ≡ false → n ≤ clean rest
 clean_most rest zero h fine = omega arith
 clean_most [] (suc n) h fine = absurd (omega arith)
@@ -119,19 +129,23 @@ clean_most (c ∷ cs) (suc n) h fine =
     let more = clean_most cs n (omega arith) p.1 in
     omega arith
 
+-- a byte between quotes has no control character where the byte is none
 byte_fine : (c : ℕ) (b : Bool) → is_ascii_control c ≡ false → list_any is_ascii_control (cond b (34 ∷ 34 ∷ []) (c ∷ [])) ≡ false
 byte_fine c true n = refl
 byte_fine c false n = or_from _ _ n refl
 
+-- neither do two pieces without one
 both_fine : (xs ys : List ℕ) → list_any is_ascii_control xs ≡ false → list_any is_ascii_control ys ≡ false → list_any is_ascii_control (xs ++ ys) ≡ false
 both_fine xs ys e f = list_any-append is_ascii_control xs ys ∙ or_from _ _ e f
 
+-- nor does a content between quotes
 doubled_fine : (content : List ℕ) → list_any is_ascii_control content ≡ false → list_any is_ascii_control (doubled content) ≡ false
 doubled_fine [] h = refl
 doubled_fine (c ∷ cs) h =
     let p = or_parts (is_ascii_control c) (list_any is_ascii_control cs) h in
     both_fine (byte_within c) (doubled cs) (byte_fine c (eqb c 34) p.0) (doubled_fine cs p.1)
 
+-- nor does the front of what has none
 front_fine : (xs ys : List ℕ) → list_any is_ascii_control (xs ++ ys) ≡ false → list_any is_ascii_control xs ≡ false
 front_fine xs ys h = (or_parts _ (list_any is_ascii_control ys) (sym (list_any-append is_ascii_control xs ys) ∙ h)).0
 

@@ -1,15 +1,14 @@
 -- A text at the front of a text.
-use Rattle.std.proofs.Common.{◌≡◌, ℕ, ◌+◌, ◌<◌, ◌≤◌, Bool, true, false, cond, eqb, List, [], ◌∷◌, ◌++◌, length, Option, Some, None, option_map, refl, sym, ap, subst, ◌∙◌, arith, ⊎_elim, eqb-true, append_assoc}
-use Rattle.std.proofs.lemmas.Bool.Decides.{nat_tests}
-use Rattle.std.proofs.lemmas.Bool.{cond-true, cond-false, cases_Bool}
+use Rattle.std.proofs.Common.{◌≡◌, ℕ, ◌+◌, Bool, true, false, cond, eqb, List, [], ◌∷◌, ◌++◌, length, Option, Some, None, option_map, refl, sym, ap, subst, ◌∙◌, arith, ⊎_elim, eqb-true, append_assoc}
+use Rattle.std.proofs.lemmas.Bool.{cond-false}
 use Rattle.std.proofs.lemmas.List.{length-append}
 use Rattle.std.proofs.lemmas.Option.{same_Some}
 use Rattle.std.specs.Char.{is_ascii_control}
 use Rattle.std.specs.List.{list_any}
-use Rattle.cell_values.specs.Word.{doubled, byte_within, quoted}
+use Rattle.cell_values.specs.Word.{doubled, quoted}
 use Rattle.formula_parse.specs.declared.tokens.Token.{Token}
 use Rattle.formula_parse.specs.declared.tokens.Token.TheVariants as tokens
-use Rattle.formula_parse.specs.Lexing.{token_at, content_at, text_found, text_behind}
+use Rattle.formula_parse.specs.Lexing.{token_at, content_at, text_found}
 use Rattle.formula_parse.proofs.LexFirst.{Found, found_as, first_passes, chosen, at_quote}
 
 -- a closing `"` behind a content, with its length
@@ -19,16 +18,20 @@ pub record Closes (text content : List ℕ) (n : ℕ) : Type 0 where
   pub count : n ≡ length (doubled content) + 1
   pub stops : first_passes (λ b. eqb b 34) rest ≡ false
 
+-- the same content and length under other names
 closes_as : (text : List ℕ) (found other : List ℕ × ℕ) → Some found ≡ Some other → Closes text found.0 found.1 → Closes text other.0 other.1
 closes_as text found other e f = subst (λ (p : List ℕ × ℕ). Closes text p.0 p.1) (same_Some _ _ e) f
 
+-- what is made of an answer is made of some answer
 pub mapped_some : {A B : Type 0} (f : A → B) (o : Option A) (y : B) → option_map f o ≡ Some y → (x : A) × (o ≡ Some x) × (f x ≡ y)
 mapped_some f None y h = absurd (cc)
 mapped_some f (Some x) y h = (x, refl, same_Some _ _ h)
 
+-- a `"` closes an empty content
 closes_here : (rest : List ℕ) → first_passes (λ b. eqb b 34) rest ≡ false → Closes (34 ∷ rest) [] 1
 closes_here rest s = record { rest = rest; whole = refl; count = refl; stops = s }
 
+-- the byte that passes the test for a `"`
 quote_is : (b : ℕ) → eqb b 34 ≡ true → b ≡ 34
 quote_is b e = eqb-true b 34 e
 
@@ -36,6 +39,7 @@ quote_is b e = eqb-true b 34 e
 closes_doubled : (cs content : List ℕ) (n : ℕ) → Closes cs content n → Closes (34 ∷ 34 ∷ cs) (34 ∷ content) (n + 2)
 closes_doubled cs content n f = record { rest = f.rest; whole = ap (λ x. 34 ∷ 34 ∷ x) f.whole; count = omega (arith, f.count); stops = f.stops }
 
+-- a byte that is no `"` stays one
 doubled_other : (c : ℕ) (content : List ℕ) → eqb c 34 ≡ false → doubled (c ∷ content) ≡ c ∷ doubled content
 doubled_other c content e = ap (λ b. cond b (34 ∷ 34 ∷ []) (c ∷ []) ++ doubled content) e
 
@@ -71,14 +75,17 @@ content_found (c ∷ d ∷ cs) found h =
     closes_as (c ∷ d ∷ cs) (c ∷ m.0.0, m.0.1 + 1) found (ap Some m.2) (closes_other c (d ∷ cs) m.0.0 m.0.1 n.0 f))
     (chosen (eqb c 34) _ _ _ h)
 
+-- a `"` without another behind it ends the content
 content_ends : (rest : List ℕ) → first_passes (λ b. eqb b 34) rest ≡ false → content_at (34 ∷ rest) ≡ Some ([], 1)
 content_ends [] s = refl
 content_ends (d ∷ cs) s = cond-false _ _ _ s
 
+-- another byte is of the content
 content_other : (c : ℕ) (text : List ℕ) → eqb c 34 ≡ false → content_at (c ∷ text) ≡ option_map (λ found. (c ∷ found.0, found.1 + 1)) (content_at text)
 content_other c [] e = cond-false _ _ _ e
 content_other c (d ∷ cs) e = cond-false _ _ _ e
 
+-- one byte more of the content, doubled where it is a `"`
 content_step : (c : ℕ) (cs rest : List ℕ) (b : Bool) → eqb c 34 ≡ b → content_at (doubled cs ++ 34 ∷ rest) ≡ Some (cs, length (doubled cs) + 1) → content_at ((cond b (34 ∷ 34 ∷ []) (c ∷ []) ++ doubled cs) ++ 34 ∷ rest) ≡ Some (c ∷ cs, length (cond b (34 ∷ 34 ∷ []) (c ∷ []) ++ doubled cs) + 1)
 content_step c cs rest true e h =
     let same : 34 ≡ c = sym (quote_is c e) in
@@ -93,6 +100,7 @@ pub content_written : (content rest : List ℕ) → first_passes (λ b. eqb b 34
 content_written [] rest s = content_ends rest s
 content_written (c ∷ cs) rest s = content_step c cs rest (eqb c 34) refl (content_written cs rest s)
 
+-- a text that is found has a content without control characters
 text_parts : (o : Option (List ℕ × ℕ)) (token : Token) (n : ℕ) → text_found o ≡ Some (token, n) → (found : List ℕ × ℕ) × (o ≡ Some found) × (list_any is_ascii_control found.0 ≡ false) × (◌≡◌ {A = Option (Token × ℕ)} (Some (tokens.Text found.0, found.1 + 1)) (Some (token, n)))
 text_parts None token n h = absurd (cc)
 text_parts (Some found) token n h =

@@ -1,11 +1,9 @@
 -- The token at the front of a text, of every kind.
-use Rattle.std.proofs.Common.{◌≡◌, ℕ, Bool, true, false, ◌||◌, eqb, List, [], ◌∷◌, ◌++◌, length, Option, Some, None, refl, sym, ap, subst, ◌∙◌, codes}
+use Rattle.std.proofs.Common.{◌≡◌, ℕ, false, eqb, List, [], ◌∷◌, ◌++◌, length, Some, sym, ap, subst, ◌∙◌}
 use Rattle.formula_parse.specs.declared.tokens.Token.{Token}
 use Rattle.formula_parse.specs.declared.tokens.Token.TheVariants as tokens
 use Rattle.formula_parse.specs.Lexing.{token_at}
-use Rattle.formula_parse.specs.Tokens.{Writes, goes_on, is_word_byte, number_value, operator_text}
-use Rattle.cell_refs.specs.Written.{capitals}
-use Rattle.cell_values.specs.Word.{quoted}
+use Rattle.formula_parse.specs.Tokens.{Writes, goes_on, is_word_byte}
 use Rattle.formula_parse.proofs.LexFirst.{Found, first_passes, by_first}
 use Rattle.formula_parse.proofs.LexErrors.{error_found, error_written}
 use Rattle.formula_parse.proofs.LexMarks.{mark_found, operator_written, open_written, close_written, comma_written}
@@ -15,6 +13,7 @@ use Rattle.formula_parse.proofs.LexTexts.{text_is_written, text_written}
 use Rattle.formula_parse.proofs.LexWords.{word_token_found, first_parts}
 use Rattle.formula_parse.proofs.LexWritten.{call_written, boolean_written, reference_written, area_written}
 
+-- no token is found in no text
 none_at_end : (token : Token) (n : ℕ) → token_at [] ≡ Some (token, n) → ⊥
 unfolding token_at
 none_at_end token n h = cc

@@ -1,5 +1,5 @@
 -- The tokens that can stand where an operand is awaited.
-use Rattle.std.proofs.Common.{◌≡◌, ℕ, ◌+◌, ◌<◌, ◌≤◌, zero, suc, Bool, true, false, eqb, List, [], ◌∷◌, ◌++◌, length, take, drop, Option, Some, None, refl, sym, ap, subst, ◌∙◌, arith, ◌⊎◌, inl, inr, ⊎_elim, codes}
+use Rattle.std.proofs.Common.{◌≡◌, ℕ, ◌≤◌, suc, Bool, true, false, eqb, List, [], ◌∷◌, ◌++◌, length, take, Option, Some, None, refl, sym, ap, subst, ◌∙◌, arith, ◌⊎◌, inl, inr, ⊎_elim}
 use Rattle.std.proofs.lemmas.Bool.{both_ways}
 use Rattle.cell_values.specs.declared.comparison.CompareOp.TheVariants as compare
 use Rattle.formula_parse.specs.declared.operators.Operator.{Operator}
@@ -15,12 +15,13 @@ use Rattle.formula_parse.specs.Tokens.{Writes, operator_text}
 use Rattle.formula_parse.proofs.Machine.{is_operand}
 use Rattle.formula_parse.proofs.LexBegun.{operand_most, boolean_first, reference_first, area_first, call_first, text_first}
 use Rattle.formula_parse.proofs.LexErrors.{error_begins}
-use Rattle.formula_parse.proofs.LexFirst.{IsMark, first_passes}
+use Rattle.formula_parse.proofs.LexFirst.{IsMark, never}
 use Rattle.formula_parse.proofs.LexMarks.{open_written, close_written, comma_written, operator_written}
 use Rattle.formula_parse.proofs.LexNumbers.{numeral_first}
 use Rattle.formula_parse.proofs.LexTokens.{token_found}
 
 -- ---- turns
+-- an operand is taken where one is awaited
 operand_taken : (minuses : ℕ) (frames : List Frame) (token : Token) → is_operand token ≡ true → operand_turn minuses frames token ≡ None → false ≡ true
 operand_taken minuses frames (tokens.Number n) o h = cc
 operand_taken minuses frames (tokens.Text t) o h = cc
@@ -48,6 +49,7 @@ start_is frames tokens.Close o = absurd (cc)
 start_is frames tokens.Comma o = absurd (cc)
 start_is frames (tokens.Operator op) o = absurd (cc)
 
+-- false isn't true
 never_both : false ≡ true → ⊥
 never_both h = both_ways false refl h
 
@@ -64,6 +66,7 @@ operator_refused (phases.Signs minuses) frames op a none = none frames minuses
 operator_refused (phases.After operand) frames op a none = absurd (never_both a)
 
 -- ---- first bytes
+-- an operator begins with a mark
 operator_mark : (op : Operator) (b : ℕ) (rest more : List ℕ) → b ∷ rest ≡ operator_text op ++ more → IsMark b
 operator_mark (operators.Compare compare.Eq) b rest more e = let same : 61 ≡ b = cc in subst IsMark same (record { no_digit = refl; no_quote = refl; no_hash = refl; no_word = refl })
 operator_mark (operators.Compare compare.Ne) b rest more e = let same : 60 ≡ b = cc in subst IsMark same (record { no_digit = refl; no_quote = refl; no_hash = refl; no_word = refl })
@@ -77,15 +80,19 @@ operator_mark operators.Subtract b rest more e = let same : 45 ≡ b = cc in sub
 operator_mark operators.Multiply b rest more e = let same : 42 ≡ b = cc in subst IsMark same (record { no_digit = refl; no_quote = refl; no_hash = refl; no_word = refl })
 operator_mark operators.Divide b rest more e = let same : 47 ≡ b = cc in subst IsMark same (record { no_digit = refl; no_quote = refl; no_hash = refl; no_word = refl })
 
+-- a mark of one byte is the first byte
 mark_at_first : (b k : ℕ) (rest more piece : List ℕ) → b ∷ rest ≡ piece ++ more → piece ≡ k ∷ [] → b ≡ k
 mark_at_first b k rest more piece e f = let whole : b ∷ rest ≡ k ∷ more = e ∙ ap (λ x. x ++ more) f in cc (whole)
 
+-- a `(` is a mark
 is_open : IsMark 40
 is_open = record { no_digit = refl; no_quote = refl; no_hash = refl; no_word = refl }
 
+-- a `)` is a mark
 is_close : IsMark 41
 is_close = record { no_digit = refl; no_quote = refl; no_hash = refl; no_word = refl }
 
+-- a `,` is a mark
 is_comma : IsMark 44
 is_comma = record { no_digit = refl; no_quote = refl; no_hash = refl; no_word = refl }
 
@@ -103,6 +110,7 @@ written_kind tokens.Close piece left b rest e w = inl (subst IsMark (sym (mark_a
 written_kind tokens.Comma piece left b rest e w = inl (subst IsMark (sym (mark_at_first b 44 rest left piece e w)) is_comma)
 written_kind (tokens.Operator op) piece left b rest e w = inl (operator_mark op b rest left (e ∙ ap (λ x. x ++ left) w))
 
+-- no test is both false and true
 no_both : (x : Bool) → x ≡ false → x ≡ true → ⊥
 no_both x e f = both_ways x e f
 
@@ -137,12 +145,9 @@ operand_refused c cs left phase frames token k is a s inside w o (Some found) e 
     (λ other. operand_stands phase frames found.0 a other (s found.0 found.1 e))
     (written_kind found.0 f.piece f.rest c cs f.whole f.writes)
 
+-- the one byte of a mark
 first_of : (c k : ℕ) (rest : List ℕ) → c ∷ rest ≡ k ∷ [] → c ≡ k
 first_of c k rest e = cc
-
-never : (rest : List ℕ) → first_passes (λ b. false) rest ≡ false
-never [] = refl
-never (c ∷ cs) = refl
 
 -- no token goes on with one byte more than has begun, where what is found can't stand
 pub no_longer_stands : (c : ℕ) (cs left : List ℕ) (phase : Phase) (frames : List Frame) (token : Token) (k : ℕ) → begun_len (c ∷ cs) ≡ k → awaits_operand phase ≡ true → ((other : Token) (n : ℕ) → token_at (c ∷ cs) ≡ Some (other, n) → turn_at phase frames other ≡ None) → suc k ≤ length (c ∷ cs) → Writes (c ∷ (take k cs ++ left)) token → turn_at phase frames token ≡ None

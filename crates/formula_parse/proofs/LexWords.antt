@@ -1,22 +1,22 @@
 -- Calls, booleans, references and areas at the front of a text, as they are found.
-use Rattle.std.proofs.Common.{◌≡◌, ℕ, suc, ◌+◌, ◌-◌, ◌<◌, ◌≤◌, Bool, true, false, not, cond, ◌||◌, ◌&&◌, eqb, leb, List, [], ◌∷◌, ◌++◌, length, take, drop, take_while, slice_index, Option, Some, None, is_none, codes, refl, sym, ap, subst, ◌∙◌, arith, ◌⊎◌, inl, inr, ⊎_elim, eqb-true}
-use Rattle.std.proofs.lemmas.Bool.{cases_Bool, cond-true, cond-false, and_parts, and_from, or_from, or_parts, not-true, and_cases, le-leb}
+use Rattle.std.proofs.Common.{◌≡◌, ℕ, ◌+◌, ◌<◌, ◌≤◌, Bool, true, false, not, ◌||◌, ◌&&◌, eqb, List, [], ◌∷◌, ◌++◌, length, drop, take_while, Option, Some, None, is_none, codes, refl, sym, ap, ◌∙◌, arith, ⊎_elim, eqb-true}
+use Rattle.std.proofs.lemmas.Bool.{and_parts, and_from, or_from, or_parts, not-true, le-leb}
 use Rattle.std.proofs.lemmas.Bool.Decides.{nat_tests}
-use Rattle.std.proofs.lemmas.List.{length-append, length-map, append-nil, append_assoc, length-drop}
+use Rattle.std.proofs.lemmas.List.{length-append, length-map, append_assoc}
 use Rattle.std.proofs.lemmas.Slice.Eq.{bytes_eq-Decides}
-use Rattle.std.proofs.Math.Seq.{drop-append_seam, drop-append-add}
-use Rattle.std.specs.Char.{is_ascii_digit, is_ascii_alphabetic, to_ascii_uppercase}
+use Rattle.std.proofs.Math.Seq.{drop-append-add}
+use Rattle.std.specs.Char.{is_ascii_alphabetic, to_ascii_uppercase}
 use Rattle.std.specs.List.{list_all}
 use Rattle.std.specs.Str.{bytes_eq}
 use Rattle.cell_refs.specs.declared.references.RefText.{RefText}
 use Rattle.cell_refs.specs.Written.{capitals, reference_at}
-use Rattle.cell_refs.proofs.Numbers.{take_while-append, front_and_rest, rest_stops}
+use Rattle.cell_refs.proofs.Numbers.{front_and_rest, rest_stops}
 use Rattle.cell_values.specs.Name.{is_name, is_name_byte}
 use Rattle.formula_parse.specs.declared.tokens.Token.{Token}
 use Rattle.formula_parse.specs.declared.tokens.Token.TheVariants as tokens
-use Rattle.formula_parse.specs.Lexing.{token_at, word_at, word_found, reference_found, area_behind, passes_at}
-use Rattle.formula_parse.specs.Tokens.{Writes, goes_on, is_word_byte, boolean_word}
-use Rattle.formula_parse.proofs.LexFirst.{Found, found_as, first_passes, passes_first, passes_seam, chosen, at_word, begins_word}
+use Rattle.formula_parse.specs.Lexing.{token_at, word_found, reference_found, area_behind, passes_at}
+use Rattle.formula_parse.specs.Tokens.{is_word_byte, boolean_word}
+use Rattle.formula_parse.proofs.LexFirst.{Found, found_as, first_passes, passes_first, passes_seam, chosen, at_word, begins_word, never}
 use Rattle.formula_parse.proofs.LexNumbers.{all_pass}
 use Rattle.formula_parse.proofs.LexReferences.{Refers, reference_refers, reference_whole, reference_begins}
 
@@ -34,18 +34,16 @@ pub first_neither : (p q : ℕ → Bool) (rest : List ℕ) → first_passes p re
 first_neither p q [] e f = refl
 first_neither p q (c ∷ cs) e f = or_from _ _ e f
 
+-- what passes neither of two tests passes none of them
 pub first_parts : (p q : ℕ → Bool) (rest : List ℕ) → first_passes (λ b. p b || q b) rest ≡ false → (first_passes p rest ≡ false) × (first_passes q rest ≡ false)
 first_parts p q [] h = (refl, refl)
 first_parts p q (c ∷ cs) h = or_parts (p c) (q c) h
-
-never : (rest : List ℕ) → first_passes (λ b. false) rest ≡ false
-never [] = refl
-never (c ∷ cs) = refl
 
 -- a word is a name where it begins with a letter and isn't too long
 pub word_is_name : (b : ℕ) (bs : List ℕ) → is_ascii_alphabetic b ≡ true → list_all is_name_byte (b ∷ bs) ≡ true → length (b ∷ bs) ≤ 255 → is_name (b ∷ bs) ≡ true
 word_is_name b bs l all few = and_from _ _ l (and_from _ _ (and_parts (is_name_byte b) _ all).1 (le-leb _ _ few))
 
+-- what is a capital letter in upper case is a letter
 letter_of : (b k : ℕ) → to_ascii_uppercase b ≡ k → 65 ≤ k → k ≤ 90 → is_ascii_alphabetic b ≡ true
 letter_of b k e low high = grind (arith, nat_tests)
 
@@ -69,6 +67,7 @@ record Word (text word : List ℕ) : Type 0 where
   all : list_all is_name_byte word ≡ true
   ends : first_passes is_name_byte after ≡ false
 
+-- each text has its word
 word_of : (text : List ℕ) → Word text (take_while is_name_byte text)
 word_of text = record {
   after = drop (length (take_while is_name_byte text)) text;
@@ -78,6 +77,7 @@ word_of text = record {
 }
 
 -- ---- calls and booleans
+-- a call stands where it is found
 call_found : (text word : List ℕ) (w : Word text word) → (passes_at (λ b. eqb b 40) text (length word) && is_name word) ≡ true → Found text (tokens.Call (capitals word)) (length word + 1)
 call_found text word w h =
     let p = and_parts _ _ h in
@@ -92,6 +92,7 @@ call_found text word w h =
       stops = never bracket.0;
     }
 
+-- a boolean stands where it is found
 boolean_found : (text word : List ℕ) (w : Word text word) (v : Bool) (n : ℕ) → (passes_at (λ b. eqb b 40) text (length word) && is_name word) ≡ false → capitals word ≡ boolean_word v → length (boolean_word v) ≡ n → is_name word ≡ true → 0 < n → Found text (tokens.Boolean v) n
 boolean_found text word w v n alone e count name some =
     record {
@@ -105,6 +106,7 @@ boolean_found text word w v n alone e count name some =
     }
 
 -- ---- references and areas
+-- a reference stands where it is found without a `:` behind it
 lone_reference : (text : List ℕ) (r : RefText) (n : ℕ) (f : Refers text r n) → 0 < n → passes_at (λ b. eqb b 58) text n ≡ false → passes_at is_word_byte text n ≡ false → Found text (tokens.Reference r) n
 lone_reference text r n f some colon word = record {
   piece = f.piece;
@@ -120,13 +122,16 @@ lone_reference text r n f some colon word = record {
 pub behind_colon : (text front more : List ℕ) (n : ℕ) → text ≡ front ++ 58 ∷ more → n ≡ length front → drop (n + 1) text ≡ more
 behind_colon text front more n e f = ap (drop (n + 1)) e ∙ (ap (λ k. drop (k + 1) (front ++ 58 ∷ more)) f ∙ (drop-append-add front (58 ∷ more) 1))
 
+-- what follows an area follows its second corner
 pub two_corners : (front back rest : List ℕ) → (front ++ 58 ∷ back) ++ rest ≡ front ++ 58 ∷ (back ++ rest)
 two_corners front back rest = append_assoc front (58 ∷ back) rest
 
+-- what has no sheet has none
 no_sheet_is : (o : Option ℕ) → is_none o ≡ true → o ≡ None
 no_sheet_is None h = refl
 no_sheet_is (Some x) h = absurd (cc)
 
+-- an area stands where its two corners are found
 area_found : (text : List ℕ) (a b : RefText) (n m : ℕ) (f : Refers text a n) (more : List ℕ) → f.rest ≡ 58 ∷ more → (g : Refers more b m) → is_none b.sheet ≡ true → passes_at is_word_byte text (n + 1 + m) ≡ false → Found text (tokens.Area a b) (n + 1 + m)
 area_found text a b n m f more colon g none word =
     let whole : text ≡ (f.piece ++ 58 ∷ g.piece) ++ g.rest = f.whole ∙ (ap (λ x. f.piece ++ x) colon ∙ (ap (λ x. f.piece ++ 58 ∷ x) g.whole ∙ sym (two_corners f.piece g.piece g.rest))) in
@@ -141,9 +146,11 @@ area_found text a b n m f more colon g none word =
       stops = sym (passes_split is_word_byte text (f.piece ++ 58 ∷ g.piece) g.rest (n + 1 + m) whole count) ∙ word;
     }
 
+-- what isn't so is false
 not_is : (b : Bool) → not b ≡ true → b ≡ false
 not_is b h = not-true b h
 
+-- an area stands where it is found behind its first corner
 area_from : (text : List ℕ) (a : RefText) (n : ℕ) (f : Refers text a n) (more : List ℕ) (token : Token) (len : ℕ) → f.rest ≡ 58 ∷ more → (o : Option (RefText × ℕ)) → reference_at more ≡ o → area_behind text a n o ≡ Some (token, len) → Found text token len
 area_from text a n f more token len colon None e h = absurd (cc)
 area_from text a n f more token len colon (Some second) e h =
@@ -157,6 +164,7 @@ area_from text a n f more token len colon (Some second) e h =
 pub refers_some : (text : List ℕ) (r : RefText) (n : ℕ) → Refers text r n → 0 < n
 refers_some text r n f = let p = reference_begins f.piece r f.spelled f.inside in omega (arith, f.count, ap length p.2)
 
+-- a reference or an area stands where it is found
 reference_some : (text : List ℕ) (token : Token) (len : ℕ) (o : Option (RefText × ℕ)) → reference_at text ≡ o → reference_found text o ≡ Some (token, len) → Found text token len
 reference_some text token len None e h = absurd (cc)
 reference_some text token len (Some found) e h =
@@ -170,12 +178,15 @@ reference_some text token len (Some found) e h =
     (chosen (passes_at is_word_byte text found.1) _ _ _ n.1))
     (chosen (passes_at (λ b. eqb b 58) text found.1) _ _ _ h)
 
+-- the word `TRUE`
 true_word : (word : List ℕ) → bytes_eq (capitals word) (codes "TRUE") ≡ true → capitals word ≡ codes "TRUE"
 true_word word h = (bytes_eq-Decides (capitals word) (codes "TRUE")).0 h
 
+-- the word `FALSE`
 false_word : (word : List ℕ) → bytes_eq (capitals word) (codes "FALSE") ≡ true → capitals word ≡ codes "FALSE"
 false_word word h = (bytes_eq-Decides (capitals word) (codes "FALSE")).0 h
 
+-- what a word comes to stands where it is found
 word_from : (text word : List ℕ) (token : Token) (len : ℕ) → Word text word → word_found text word ≡ Some (token, len) → Found text token len
 word_from text word token len w h =
     ⊎_elim (λ y. found_as text (tokens.Call (capitals word)) token (length word + 1) len y.1 (call_found text word w y.0))

@@ -1,5 +1,5 @@
 -- Calls, booleans, references and areas at the front of a text, as they are written.
-use Rattle.std.proofs.Common.{◌≡◌, ℕ, suc, ◌+◌, ◌-◌, ◌<◌, ◌≤◌, Bool, true, false, not, cond, ◌||◌, ◌&&◌, eqb, List, [], ◌∷◌, ◌++◌, length, drop, take_while, slice_index, Option, Some, None, is_none, codes, refl, sym, ap, subst, ◌∙◌, arith, ⊎_elim}
+use Rattle.std.proofs.Common.{◌≡◌, ℕ, ◌+◌, ◌<◌, ◌≤◌, Bool, true, false, not, cond, ◌&&◌, eqb, List, [], ◌∷◌, ◌++◌, length, drop, take_while, Option, Some, None, is_none, codes, refl, sym, ap, subst, ◌∙◌, arith, ⊎_elim}
 use Rattle.std.proofs.lemmas.Bool.{cases_Bool, cond-true, cond-false, and_parts, and_from, and_left, and_right, or_parts, or_left, not_from_false, false_from_ne_true, lt-leb}
 use Rattle.std.proofs.lemmas.Bool.Decides.{nat_tests}
 use Rattle.std.proofs.lemmas.List.{length-append, length-map, append_assoc, map-append}
@@ -9,7 +9,7 @@ use Rattle.std.specs.Char.{is_ascii_digit, is_ascii_alphabetic, is_ascii_upperca
 use Rattle.std.specs.List.{list_all}
 use Rattle.std.specs.Str.{bytes_eq}
 use Rattle.cell_refs.specs.declared.references.RefText.{RefText}
-use Rattle.cell_refs.specs.Reading.{reference_in, sheet_at, mark_at, column_at, number_at, column_number, ◌>>=◌}
+use Rattle.cell_refs.specs.Reading.{reference_in, sheet_at, mark_at, column_at}
 use Rattle.cell_refs.specs.RefText.{IsReference}
 use Rattle.cell_refs.specs.Written.{capitals, reference_at}
 use Rattle.cell_refs.proofs.BothWays.{reference_capitals}
@@ -24,6 +24,7 @@ use Rattle.formula_parse.proofs.LexFirst.{first_passes, passes_first, passes_sea
 use Rattle.formula_parse.proofs.LexReferences.{reference_joined, reference_begins, reference_no_open}
 use Rattle.formula_parse.proofs.LexWords.{passes_split, first_parts, behind_colon, two_corners}
 
+-- a letter begins a word, and can stand in a name
 letter_begins : (b : ℕ) → is_ascii_alphabetic b ≡ true → (begins_word b ≡ true) × (is_name_byte b ≡ true)
 letter_begins b l = (or_left _ _ l, grind (arith, nat_tests))
 
@@ -33,6 +34,7 @@ word_there b bs rest l all ends =
     at_word b (bs ++ rest) (letter_begins b l).0
     ∙ ap (word_found (b ∷ bs ++ rest)) (take_while-append is_name_byte (b ∷ bs) rest refl all (passes_first is_name_byte rest refl ∙ ends))
 
+-- a name and a `(` are found
 name_there : (written rest : List ℕ) → is_name written ≡ true → token_at (written ++ 40 ∷ rest) ≡ Some (tokens.Call (capitals written), length written + 1)
 name_there [] rest h = absurd (cc)
 name_there (b ∷ bs) rest h =
@@ -48,13 +50,16 @@ call_written written rest h =
     ap token_at (append_assoc written (40 ∷ []) rest) ∙ (name_there written rest h ∙ ap (λ n. Some (tokens.Call (capitals written), n)) count)
 
 -- ---- booleans
+-- what is a capital letter in upper case is a letter, and can stand in a name
 upper_letter : (b : ℕ) → is_ascii_uppercase (to_ascii_uppercase b) ≡ true → (is_ascii_alphabetic b ≡ true) × (is_name_byte b ≡ true)
 upper_letter b h = (grind (arith, nat_tests), grind (arith, nat_tests))
 
+-- letters can stand in a name
 pub letters_name : (word : List ℕ) → list_all is_ascii_uppercase (capitals word) ≡ true → list_all is_name_byte word ≡ true
 letters_name [] h = refl
 letters_name (b ∷ bs) h = let p = and_parts (is_ascii_uppercase (to_ascii_uppercase b)) _ h in and_from _ _ (upper_letter b p.0).1 (letters_name bs p.1)
 
+-- letters are the word at the front where no name goes on with them
 letters_there : (word rest : List ℕ) → list_all is_ascii_uppercase (capitals word) ≡ true → 0 < length word → first_passes is_name_byte rest ≡ false → token_at (word ++ rest) ≡ word_found (word ++ rest) word
 letters_there [] rest h some ends = absurd (omega arith)
 letters_there (b ∷ bs) rest h some ends = word_there b bs rest (upper_letter b (and_parts (is_ascii_uppercase (to_ascii_uppercase b)) _ h).0).0 (letters_name (b ∷ bs) h) ends
@@ -63,15 +68,18 @@ letters_there (b ∷ bs) rest h some ends = word_there b bs rest (upper_letter b
 spelled_word : List ℕ → List ℕ → Option (Token × ℕ)
 spelled_word text upper = cond (bytes_eq upper (codes "TRUE")) (Some (tokens.Boolean true, 4)) (cond (bytes_eq upper (codes "FALSE")) (Some (tokens.Boolean false, 5)) (reference_found text (reference_at text)))
 
+-- a word that is no call
 no_call_there : (text word : List ℕ) → (passes_at (λ b. eqb b 40) text (length word) && is_name word) ≡ false → word_found text word ≡ spelled_word text (capitals word)
 unfolding spelled_word
 no_call_there text word h = cond-false _ _ _ h
 
+-- the word of a boolean is found
 boolean_there : (text : List ℕ) (v : Bool) → spelled_word text (boolean_word v) ≡ Some (tokens.Boolean v, length (boolean_word v))
 unfolding spelled_word
 boolean_there text true = refl
 boolean_there text false = refl
 
+-- the word of a boolean is letters
 boolean_letters : (v : Bool) → (list_all is_ascii_uppercase (boolean_word v) ≡ true) × (0 < length (boolean_word v))
 boolean_letters true = (refl, omega arith)
 boolean_letters false = (refl, omega arith)
@@ -96,28 +104,35 @@ front_short p (c ∷ cs) x all =
     let e = ap length (take_while-cons p c (cs ++ x) ∙ cond-true (p c) _ _ h.0) in
     omega arith
 
+-- `TRUE` begins with four letters
 four_true : (x : List ℕ) → 4 ≤ length (take_while is_ascii_uppercase (codes "TRUE" ++ x))
 four_true x = front_short is_ascii_uppercase (codes "TRUE") x refl
 
+-- so does `FALSE`
 four_false : (x : List ℕ) → 4 ≤ length (take_while is_ascii_uppercase (codes "FALSE" ++ x))
 four_false x = let h = front_short is_ascii_uppercase (codes "FALSE") x refl in omega arith
 
+-- four letters are no column
 pub column_none : (text : List ℕ) → 4 ≤ length (take_while is_ascii_uppercase text) → column_at text ≡ None
 unfolding column_at
 column_none text many = cond-false _ _ _ (and_left _ _ (and_right _ _ (lt-leb (length (take_while is_ascii_uppercase text)) 3 (omega arith))))
 
+-- `TRUE` begins no reference
 no_true : (x : List ℕ) → reference_in (codes "TRUE" ++ x) ≡ None
 unfolding reference_in sheet_at mark_at
 no_true x = rw (column_none (codes "TRUE" ++ x) (four_true x)) refl
 
+-- nor does `FALSE`
 no_false : (x : List ℕ) → reference_in (codes "FALSE" ++ x) ≡ None
 unfolding reference_in sheet_at mark_at
 no_false x = rw (column_none (codes "FALSE" ++ x) (four_false x)) refl
 
+-- nor does any boolean
 no_boolean : (v : Bool) (x : List ℕ) → reference_in (boolean_word v ++ x) ≡ None
 no_boolean true x = no_true x
 no_boolean false x = no_false x
 
+-- where a reference is read, the word is no boolean
 no_boolean_reference : (text word after : List ℕ) (v : Bool) (found : RefText × ℕ) → text ≡ word ++ after → reference_at text ≡ Some found → capitals word ≡ boolean_word v → ⊥
 no_boolean_reference text word after v found whole read e =
     let upper : capitals text ≡ boolean_word v ++ capitals after = ap capitals whole ∙ (map-append to_ascii_uppercase word after ∙ ap (λ x. x ++ capitals after) e) in
@@ -126,12 +141,15 @@ no_boolean_reference text word after v found whole read e =
     cc
 
 -- ---- references and areas
+-- what follows a front that begins with a byte that passes
 span_yes : (p : ℕ → Bool) (x : ℕ) (xs : List ℕ) → p x ≡ true → drop (length (take_while p (x ∷ xs))) (x ∷ xs) ≡ drop (length (take_while p xs)) xs
 span_yes p x xs h = ap (λ t. drop (length t) (x ∷ xs)) (take_while-cons p x xs ∙ cond-true (p x) _ _ h)
 
+-- what follows no front
 span_no : (p : ℕ → Bool) (x : ℕ) (xs : List ℕ) → p x ≡ false → drop (length (take_while p (x ∷ xs))) (x ∷ xs) ≡ x ∷ xs
 span_no p x xs h = ap (λ t. drop (length t) (x ∷ xs)) (take_while-cons p x xs ∙ cond-false (p x) _ _ h)
 
+-- what isn't so is false
 not_open : (b : Bool) → not b ≡ true → b ≡ false
 not_open true h = absurd (cc)
 not_open false h = refl
@@ -149,6 +167,7 @@ no_open_behind (b ∷ bs) rest h stops =
     (λ n. ap (first_passes (λ b. eqb b 40)) (span_no is_name_byte b (bs ++ rest) n) ∙ not_open (eqb b 40) p.0)
     (cases_Bool (is_name_byte b))
 
+-- what goes on with no name is no digit
 word_no_digit : (rest : List ℕ) → first_passes is_word_byte rest ≡ false → first_passes is_ascii_digit rest ≡ false
 word_no_digit [] h = refl
 word_no_digit (c ∷ cs) h = no_digit c h
@@ -156,6 +175,7 @@ word_no_digit (c ∷ cs) h = no_digit c h
     no_digit : (c : ℕ) → is_word_byte c ≡ false → is_ascii_digit c ≡ false
     no_digit c h = grind (arith, nat_tests)
 
+-- where a reference is read, it is what the word comes to
 no_boolean_there : (text word after : List ℕ) (found : RefText × ℕ) → text ≡ word ++ after → reference_at text ≡ Some found → spelled_word text (capitals word) ≡ reference_found text (reference_at text)
 unfolding spelled_word
 no_boolean_there text word after found whole read =
@@ -180,9 +200,11 @@ reference_written piece rest r e inside stops colon =
     reference_there piece rest r e inside stops
     ∙ (cond-false _ _ _ (passes_seam (λ b. eqb b 58) piece rest ∙ colon) ∙ cond-false _ _ _ (passes_seam is_word_byte piece rest ∙ stops))
 
+-- a second corner ends an area
 second_there : (text : List ℕ) (a b : RefText) (n m : ℕ) → b.sheet ≡ None → passes_at is_word_byte text (n + 1 + m) ≡ false → area_behind text a n (Some (b, m)) ≡ Some (tokens.Area a b, n + 1 + m)
 second_there text a b n m none stops = cond-true _ _ _ (and_from _ _ (ap is_none none) (not_from_false _ stops))
 
+-- an area is found, with what follows its second corner
 area_there : (front back rest : List ℕ) (a b : RefText) → capitals front ≡ reference_capitals a → IsReference a → capitals back ≡ reference_capitals b → IsReference b → b.sheet ≡ None → first_passes is_word_byte rest ≡ false → token_at (front ++ 58 ∷ (back ++ rest)) ≡ Some (tokens.Area a b, length front + 1 + length back)
 area_there front back rest a b ea ia eb ib none stops =
     let text = front ++ 58 ∷ (back ++ rest) in

@@ -1,5 +1,5 @@
 -- The token at the front of a text is the one that the grammar writes there.
-use Rattle.std.proofs.Common.{◌≡◌, ℕ, suc, ◌<◌, ◌≤◌, Bool, true, false, ◌+◌, ◌-◌, List, [], ◌∷◌, ◌++◌, length, take, drop, Option, Some, None, refl, sym, ap, subst, ◌∙◌, arith, ⊎_elim}
+use Rattle.std.proofs.Common.{◌≡◌, ℕ, suc, ◌<◌, ◌≤◌, true, false, ◌+◌, ◌-◌, List, [], ◌∷◌, ◌++◌, length, take, drop, Some, None, refl, sym, ap, subst, ◌∙◌, arith, ⊎_elim}
 use Rattle.std.proofs.lemmas.Bool.{cases_lt}
 use Rattle.std.proofs.lemmas.List.{length-append, append_assoc, take-append-drop, take_at, length-take-le}
 use Rattle.std.proofs.Math.Seq.{take-append_seam, drop-append_seam, take-append-add}
@@ -37,9 +37,11 @@ found_is_written text token n h =
 pub written_is_found : (piece rest : List ℕ) (token : Token) → Writes piece token → goes_on_with token rest ≡ false → token_at (piece ++ rest) ≡ Some (token, length piece)
 written_is_found piece rest token w e = token_written piece rest token w (sym (goes_on_first token rest) ∙ e)
 
+-- what is more is more by some number
 more_than : (n m : ℕ) → n < m → (k : ℕ) × (m ≡ n + suc k)
 more_than n m h = (m - suc n, omega arith)
 
+-- what is written is found again where one byte behind it is kept
 again : (piece left rest : List ℕ) (token : Token) (k : ℕ) → Writes piece token → first_passes (goes_on token) left ≡ false → 0 < length left → token_at (take (length piece + suc k) (piece ++ left) ++ rest) ≡ Some (token, length piece)
 again piece [] rest token k w s some = absurd (omega arith)
 again piece (c ∷ cs) rest token k w s some =
