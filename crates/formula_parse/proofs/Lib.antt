@@ -1,4 +1,7 @@
 -- Lemmas of this crate.
+pub mod CodeDigits
+pub mod CodeSheets
+pub mod CodeWords
 pub mod LexingLaws
 pub mod Machine
 pub mod MachineLaws

@@ -34,7 +34,7 @@ pub(crate) fn token_at(alloc: Global, text: &str, place: usize) -> Result<Found,
     match rest.first() {
         None => Ok(None),
         Some(byte) if byte.is_ascii_digit() => Ok(Some(number(rest))),
-        Some(b'"') => quotes::text_behind(alloc, text, place + 1),
+        Some(b'"') => quotes::text_behind(alloc, &text[place + 1..]),
         Some(b'#') => Ok(words::error(rest)),
         Some(byte) if byte.is_ascii_alphabetic() || *byte == b'$' => words::word(alloc, rest),
         Some(byte) => Ok(marks::mark(*byte, &rest[1..])),
