@@ -1,5 +1,5 @@
 -- The sheet part at the front of a text.
-use Rattle.std.proofs.Common.{◌≡◌, ℕ, ◌+◌, ◌-◌, suc, ◌<◌, ◌≤◌, Bool, true, false, cond, ◌&&◌, nat_lt, nat_le, slice_index, eqb, List, [], ◌∷◌, map, length, take, drop, take_while, get_or, Option, Some, None, codes, refl, ap, sym, ◌∙◌, arith}
+use Rattle.std.proofs.Common.{◌≡◌, ℕ, ◌+◌, ◌-◌, suc, ◌<◌, ◌≤◌, Bool, true, false, cond, ◌&&◌, nat_lt, nat_le, slice_index, eqb, List, [], ◌∷◌, map, length, take, drop, take_while, get_or, Option, Some, None, codes, refl, ap, sym, ◌∙◌, arith, length-drop}
 use Rattle.std.proofs.lemmas.Bool.Decides.{nat_tests}
 use Rattle.std.proofs.lemmas.List.{at_drop_more, at_drop_all, length-map, drop-map, take-map}
 use Rattle.std.specs.Char.{to_ascii_uppercase, is_ascii_digit}
@@ -54,13 +54,13 @@ mark_none rest n h = by_end (nat_lt n (length rest)) refl
         at_drop_all (λ xs. rest_after (codes "!") (capitals xs)) rest n l
 
 -- a number and its `!` are the sheet part behind the word
-pub sheet_found : (text rest : List ℕ) (n : ℕ) → 5 ≤ length text → rest ≡ drop 5 text → begins_with (codes "SHEET") text ≡ true → n ≡ length (take_while is_ascii_digit rest) → 48 < slice_index (take n rest) 0 → digits_value 10 (take n rest) ≤ 64 → n < length rest → get_or rest n 0 ≡ 33 → sheet_len text (sheet_at (capitals text)) ≡ 6 + n
+pub sheet_found : (text rest : List ℕ) (n : ℕ) → rest ≡ drop 5 text → begins_with (codes "SHEET") text ≡ true → n ≡ length (take_while is_ascii_digit rest) → 48 < slice_index (take n rest) 0 → digits_value 10 (take n rest) ≤ 64 → n < length rest → get_or rest n 0 ≡ 33 → sheet_len text (sheet_at (capitals text)) ≡ 6 + n
 unfolding sheet_number_at
-sheet_found text rest n five r b e some small l m =
+sheet_found text rest n r b e some small l m =
     let at : sheet_at (capitals text) ≡ sheet_number_at (capitals rest) = behind_word text rest r b in
     let number : number_at 64 (capitals rest) ≡ Some (digits_value 10 (take n rest), capitals (drop n rest)) = sym (number_found 64 rest (take n rest) (drop n rest) n (digits_value 10 (take n rest)) e refl refl some refl small) in
     let mark : rest_after (codes "!") (capitals (drop n rest)) ≡ Some (capitals (drop (n + 1) rest)) = mark_found rest n l m in
-    rw (at, number, mark) ?
+    rw (at, number, mark) (omega (arith, length-map (drop (n + 1) rest) to_ascii_uppercase, length-drop (n + 1) rest, length-drop 5 text, ap length r))
 
 -- digits that are no number of a sheet, or have no `!` behind them, are no sheet part
 pub no_number : (text rest : List ℕ) (n : ℕ) → rest ≡ drop 5 text → begins_with (codes "SHEET") text ≡ true → n ≡ length (take_while is_ascii_digit rest) → (48 < slice_index (take n rest) 0 → digits_value 10 (take n rest) ≤ 64 → ⊥) → sheet_len text (sheet_at (capitals text)) ≡ 0
@@ -76,3 +76,16 @@ no_mark text rest n r b e some small out =
     let at : sheet_at (capitals text) ≡ sheet_number_at (capitals rest) = behind_word text rest r b in
     let number : number_at 64 (capitals rest) ≡ Some (digits_value 10 (take n rest), capitals (drop n rest)) = sym (number_found 64 rest (take n rest) (drop n rest) n (digits_value 10 (take n rest)) e refl refl some refl small) in
     rw (at, number, mark_none rest n out) refl
+
+-- the code's tests in words: a byte stands at a place, and digits are the number of a sheet
+pub both_parts : (m n x y : ℕ) → (nat_lt m n && eqb x y) ≡ true → (m < n) × (x ≡ y)
+both_parts m n x y h = (grind (arith, nat_tests), grind (arith, nat_tests))
+
+pub not_both : (m n x y : ℕ) → (nat_lt m n && eqb x y) ≡ false → m < n → x ≡ y → ⊥
+not_both m n x y h l e = grind (arith, nat_tests)
+
+pub sheet_parts : (first value : ℕ) → (nat_lt 48 first && nat_le value 64) ≡ true → (48 < first) × (value ≤ 64)
+sheet_parts first value h = (grind (arith, nat_tests), grind (arith, nat_tests))
+
+pub not_sheet : (first value : ℕ) → (nat_lt 48 first && nat_le value 64) ≡ false → 48 < first → value ≤ 64 → ⊥
+not_sheet first value h f v = grind (arith, nat_tests)

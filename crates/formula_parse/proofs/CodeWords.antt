@@ -3,6 +3,7 @@ use Rattle.std.proofs.Common.{◌≡◌, ℕ, ◌+◌, suc, ◌<◌, ◌≤◌, 
 use Rattle.std.proofs.lemmas.Bool.Decides.{nat_tests}
 use Rattle.std.proofs.lemmas.List.{at_drop_more, at_drop_all, length-map, drop-map}
 use Rattle.std.specs.Char.{to_ascii_uppercase}
+use Rattle.std.specs.Ordering.{ord_max, nat_cmp}
 use Rattle.std.specs.Str.{bytes_eq}
 use Rattle.cell_refs.specs.Written.{capitals}
 use Rattle.formula_parse.specs.Lexing.{common_len, greatest}
@@ -55,3 +56,7 @@ common_end word text i h = by_end (leb (length word) i) refl
 -- the greatest of numbers, one step on
 pub greatest_more : {A : Type 0} (f : A → ℕ) (xs : List A) (i b : ℕ) (d : A) → i < length xs → max b (greatest (map f (drop i xs))) ≡ max (max b (f (get_or xs i d))) (greatest (map f (drop (i + 1) xs)))
 greatest_more f xs i b d h = ap (max b) (at_drop_more (λ ys. greatest (map f ys)) xs i d h) ∙ omega arith
+
+-- std's word for the greater of two numbers
+pub max_is : (a b m : ℕ) → m ≡ ord_max nat_cmp a b → m ≡ max a b
+max_is a b m e = grind (arith, nat_tests)

@@ -5,11 +5,11 @@ mod marks;
 mod quotes;
 mod words;
 
-ghost use Rattle.std.specs.Prelude.{◌≡◌, ◌≤◌, ℕ, min, length, drop, take_while, Some, IsTrue, ◌⊎◌};
+ghost use Rattle.std.specs.Prelude.{◌≡◌, ◌==◌, ◌≤◌, ℕ, min, length, drop, take_while, Some, IsTrue, ◌⊎◌};
 ghost use Rattle.std.specs.Char.{is_ascii_digit};
 ghost use Rattle.std.specs.Str.{all_ascii_digits};
 ghost use Rattle.std.specs.Str.Parse.{digits_value};
-ghost use Rattle.formula_parse.specs.Lexing.{token_at, number_at};
+ghost use Rattle.formula_parse.specs.Lexing.{token_at, number_at, passes_at};
 
 pub(crate) use begun::begun_len;
 
@@ -67,4 +67,11 @@ fn value(digits: &[u8]) -> u64
         number = (10 * number + u64::from(byte - b'0')).min(TOO_LARGE);
     }
     number
+}
+
+/// Whether this byte stands at a place.
+fn stands_at(text: &[u8], place: usize, byte: u8) -> bool
+    ensures { result ≡ passes_at (λ b. b == byte) text.now place }
+{
+    text.get(place) == Some(&byte)
 }

@@ -8,7 +8,7 @@ ghost use Rattle.cell_refs.specs.Reading.{sheet_at};
 ghost use Rattle.formula_parse.specs.Lexing.{begun_len, error_begun, word_begun, name_begun, column_begun, row_begun, mark_len, plain_begun, corner_begun, reference_begun, sheet_len, common_len};
 
 use super::words::{begins_with, common_len, word_len};
-use super::{digits_len, value};
+use super::{digits_len, stands_at, value};
 use cell_refs::read_ref;
 use cell_values::ErrorKind;
 
@@ -99,7 +99,7 @@ fn sheet_len(text: &[u8]) -> usize
     }
     let number = &text[5..];
     let len = digits_len(number);
-    if is_sheet(&number[..len]) && number.get(len) == Some(&b'!') {
+    if is_sheet(&number[..len]) && stands_at(number, len, b'!') {
         6 + len
     } else {
         0
@@ -137,7 +137,7 @@ fn mark_len(text: &[u8], place: usize) -> usize
     ensures value { result ≡ mark_len text.now place }
     ensures within { place ≤ length text.now → place + result ≤ length text.now }
 {
-    if text.get(place) == Some(&b'$') { 1 } else { 0 }
+    if stands_at(text, place, b'$') { 1 } else { 0 }
 }
 
 /// How many letters name a column inside the grid.
@@ -182,7 +182,7 @@ fn corner_begun(text: &[u8]) -> usize
     ensures within { result ≤ length text.now }
 {
     match read_ref(text) {
-        Some((_, len)) if text.get(len) == Some(&b':') => {
+        Some((_, len)) if stands_at(text, len, b':') => {
             len + 1 + plain_begun(&text[len + 1..])
         }
         _ => 0,

@@ -8,7 +8,7 @@ ghost use Rattle.formula_parse.specs.Tokens.{is_word_byte};
 
 use super::super::faults::ParseFault;
 use super::super::tokens::Token;
-use super::Found;
+use super::{Found, stands_at};
 use cell_refs::{RefText, read_ref};
 use cell_values::{ErrorKind, Name, NameFault};
 use std::alloc::{AllocError, Global};
@@ -64,7 +64,7 @@ pub(super) fn word(alloc: Global, text: &[u8]) -> Result<Found, ParseFault>
 {
     let len = word_len(text);
     let word = &text[..len];
-    if text.get(len) == Some(&b'(') {
+    if stands_at(text, len, b'(') {
         if let Some(name) = name(alloc, word)? {
             return Ok(Some((Token::Call(name), len + 1)));
         }
@@ -111,7 +111,7 @@ fn reference(text: &[u8]) -> Found
     ensures { result ≡ reference_found text.now (reference_at text.now) }
 {
     let (first, len) = read_ref(text)?;
-    if text.get(len) == Some(&b':') {
+    if stands_at(text, len, b':') {
         area(text, first, len)
     } else if is_word_byte_at(text, len) {
         None
