@@ -1,5 +1,6 @@
 -- Lemmas of this crate.
 pub mod CodeDigits
+pub mod CodeNames
 pub mod CodeSheets
 pub mod CodeWords
 pub mod LexingLaws
