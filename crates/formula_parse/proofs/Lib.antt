@@ -1,6 +1,7 @@
 -- Lemmas of this crate.
 pub mod CodeDigits
 pub mod CodeNames
+pub mod CodeQuotes
 pub mod CodeSheets
 pub mod CodeWords
 pub mod LexingLaws

@@ -19,7 +19,8 @@ pub(super) fn text_behind(alloc: Global, rest: &str) -> Result<Found, ParseFault
     match Text::new(alloc, content.as_str()) {
         Ok(text) => Ok(Some((Token::Text(text), len + 1))),
         Err(TextFault::Memory) => Err(ParseFault::Memory),
-        Err(_) => Ok(None),
+        Err(TextFault::TooLong) => Ok(None),
+        Err(TextFault::Control(_)) => Ok(None),
     }
 }
 

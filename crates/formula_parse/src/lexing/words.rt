@@ -1,9 +1,10 @@
 ghost use Rattle.std.specs.Prelude.{◌≡◌, ℕ, ◌≤◌, Bool, ◌+◌, length, take, drop, ◌⊎◌, take_while, if◌then◌else◌, Some, None, IfOk};
+ghost use Rattle.std.specs.List.{find};
 ghost use Rattle.std.specs.Str.{bytes_eq};
 ghost use Rattle.cell_refs.specs.Written.{reference_at, capitals};
 ghost use Rattle.cell_values.specs.Error.{error_word};
 ghost use Rattle.cell_values.specs.Name.{is_name, is_name_byte};
-ghost use Rattle.formula_parse.specs.Lexing.{error_at, word_at, word_found, reference_found, area_behind, begins_with, common_len, passes_at};
+ghost use Rattle.formula_parse.specs.Lexing.{error_at, word_at, word_found, reference_found, area_behind, all_errors, begins_with, common_len, passes_at};
 ghost use Rattle.formula_parse.specs.Tokens.{is_word_byte};
 
 use super::super::faults::ParseFault;
@@ -17,6 +18,14 @@ use std::alloc::{AllocError, Global};
 pub(super) fn error(text: &[u8]) -> Found
     ensures { result ≡ error_at text.now }
 {
+    let kind = error_kind(text)?;
+    Some((Token::Error(kind), kind.word().len()))
+}
+
+/// The error value whose word stands at the front.
+fn error_kind(text: &[u8]) -> Option<ErrorKind>
+    ensures { result ≡ find (λ e. begins_with (error_word e) text.now) all_errors }
+{
     let kinds = [
         ErrorKind::Null,
         ErrorKind::Div0,
@@ -26,8 +35,7 @@ pub(super) fn error(text: &[u8]) -> Found
         ErrorKind::Num,
         ErrorKind::Na,
     ];
-    let kind = kinds.iter().copied().find(|kind| begins_with(kind.word().as_bytes(), text))?;
-    Some((Token::Error(kind), kind.word().len()))
+    kinds.iter().copied().find(|kind| begins_with(kind.word().as_bytes(), text))
 }
 
 /// Whether the text begins with a word in upper case, in any case.
