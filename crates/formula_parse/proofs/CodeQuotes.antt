@@ -95,7 +95,7 @@ abbrev pub IsWithin : List ℕ → Option (List ℕ × ℕ) → Type 0
 IsWithin text None = Unit {0}
 IsWithin text (Some found) = (length found.0 < found.1) × (found.1 ≤ length text)
 
-content_within : (text : List ℕ) → IsWithin text (content_at text)
+pub content_within : (text : List ℕ) → IsWithin text (content_at text)
 content_within [] = tt
 content_within (c ∷ []) = one (eqb c 34)
   where

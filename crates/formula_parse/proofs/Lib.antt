@@ -1,9 +1,12 @@
 -- Lemmas of this crate.
 pub mod CodeDigits
+pub mod CodeLengths
 pub mod CodeNames
 pub mod CodeQuotes
+pub mod CodeReading
 pub mod CodeSheets
 pub mod CodeTokens
+pub mod CodeTurns
 pub mod CodeWords
 pub mod LexingLaws
 pub mod Machine
