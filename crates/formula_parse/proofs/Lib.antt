@@ -2,6 +2,15 @@
 pub mod Causes
 pub mod ChainLinks
 pub mod ChainTaken
+pub mod CodeDigits
+pub mod CodeLengths
+pub mod CodeNames
+pub mod CodeQuotes
+pub mod CodeReading
+pub mod CodeSheets
+pub mod CodeTokens
+pub mod CodeTurns
+pub mod CodeWords
 pub mod Completing
 pub mod Depths
 pub mod LexAreaFronts

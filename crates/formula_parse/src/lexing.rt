@@ -5,8 +5,11 @@ mod marks;
 mod quotes;
 mod words;
 
-ghost use Rattle.std.specs.Prelude.{◌≡◌, ◌≤◌, ℕ, length, drop, Some, ◌⊎◌};
-ghost use Rattle.formula_parse.specs.Lexing.{token_at, number_at};
+ghost use Rattle.std.specs.Prelude.{◌≡◌, ◌==◌, ◌≤◌, ℕ, min, length, drop, take_while, Some, IsTrue, ◌⊎◌};
+ghost use Rattle.std.specs.Char.{is_ascii_digit};
+ghost use Rattle.std.specs.Str.{all_ascii_digits};
+ghost use Rattle.std.specs.Str.Parse.{digits_value};
+ghost use Rattle.formula_parse.specs.Lexing.{token_at, number_at, passes_at};
 
 use super::faults::ParseFault;
 use super::tokens::Token;
@@ -30,7 +33,7 @@ pub(crate) fn token_at(alloc: Global, text: &str, place: usize) -> Result<Found,
     match rest.first() {
         None => Ok(None),
         Some(byte) if byte.is_ascii_digit() => Ok(Some(number(rest))),
-        Some(b'"') => quotes::text_behind(alloc, text, place + 1),
+        Some(b'"') => quotes::text_behind(alloc, &text[place + 1..]),
         Some(b'#') => Ok(words::error(rest)),
         Some(byte) if byte.is_ascii_alphabetic() || *byte == b'$' => words::word(alloc, rest),
         Some(byte) => Ok(marks::mark(*byte, &rest[1..])),
@@ -41,14 +44,33 @@ pub(crate) fn token_at(alloc: Global, text: &str, place: usize) -> Result<Found,
 fn number(text: &[u8]) -> (Token, usize)
     ensures { Some result ≡ number_at text.now }
 {
+    let len = digits_len(text);
+    (Token::Number(value(&text[..len]) as i64), len)
+}
+
+/// How many digits stand at the front.
+fn digits_len(text: &[u8]) -> usize
+    ensures { result ≡ length (take_while is_ascii_digit text.now) }
+{
+    text.iter().take_while(|byte| byte.is_ascii_digit()).count()
+}
+
+/// The number that digits write, or the least one over the limit.
+fn value(digits: &[u8]) -> u64
+    requires { IsTrue (all_ascii_digits digits.now) }
+    ensures value { result ≡ min (digits_value 10 digits.now) 1000000000000000 }
+    ensures small { result ≤ 1000000000000000 }
+{
     let mut number = 0;
-    let mut len = 0;
-    for byte in text {
-        if !byte.is_ascii_digit() {
-            break;
-        }
+    for byte in digits {
         number = (10 * number + u64::from(byte - b'0')).min(TOO_LARGE);
-        len += 1;
     }
-    (Token::Number(number as i64), len)
+    number
+}
+
+/// Whether this byte stands at a place.
+fn stands_at(text: &[u8], place: usize, byte: u8) -> bool
+    ensures { result ≡ passes_at (λ b. b == byte) text.now place }
+{
+    text.get(place) == Some(&byte)
 }

@@ -1,4 +1,5 @@
-ghost use Rattle.std.specs.Prelude.{◌≡◌, ◌⊎◌, ◌↔◌, ◌<◌, ◌≤◌, ◌+◌, ℕ, [], length, drop, Some, IfOk};
+ghost use Rattle.std.specs.Prelude.{◌≡◌, ◌⊎◌, ◌↔◌, ◌<◌, ◌≤◌, ◌+◌, ℕ, [], length, drop, if◌then◌else◌, Some, IfOk};
+ghost use Rattle.formula_parse.specs.Lexing.{begun_len};
 ghost use Rattle.std.specs.Str.{chars};
 ghost use Rattle.formula_parse.specs.Faults.{IsFormula, IsShort, IsTooDeep, IsSyntaxFault, IsRangeFault, IsNumberFault};
 ghost use Rattle.formula_parse.specs.Reading.{formula_of, is_too_long, parsed, read_text, read_from, read_next, at_end, ended, gap_len, first_reader, begun_behind, minuses_in, Answer};
@@ -51,7 +52,7 @@ fn has_too_many_characters(text: &str) -> bool
 
 /// The tree of the formula, whatever its length in characters.
 fn read_formula(alloc: Global, text: &str) -> Result<Tree, ParseFault>
-    requires { length text.now ≤ 32768 }
+    requires { IsShort text.now }
     ensures { (result ≡ Err ParseFault.Memory) ⊎ (result ≡ read_text text.now) }
 {
     if text.as_bytes().first() != Some(&b'=') {
@@ -83,12 +84,12 @@ fn read_next(alloc: Global, text: &str, reader: Reader, place: usize) -> Result<
     if place == text.len() {
         return read_end(reader, place);
     }
-    let fault = fault_at(&reader, text, place);
     let Some((token, len)) = token_at(alloc, text, place)? else {
-        return Err(fault);
+        return Err(fault_at(&reader, text, place));
     };
+    let awaits_operand = reader.awaits_operand();
     match reader.with(alloc, token)? {
-        None => Err(fault),
+        None => Err(fault_where(awaits_operand, text, place)),
         Some(next) if next.is_too_deep() => Err(ParseFault::TooDeep),
         Some(next) => Ok(Read::Token(next, place + len)),
     }
@@ -99,11 +100,15 @@ fn fault_at(reader: &Reader, text: &str, place: usize) -> ParseFault
     requires { place ≤ length text.now }
     ensures { result ≡ ParseFault.Syntax (place + begun_behind reader.now.phase (drop place text.now)) }
 {
-    let begun = if reader.awaits_operand() {
-        begun_len(&text.as_bytes()[place..])
-    } else {
-        0
-    };
+    fault_where(reader.awaits_operand(), text, place)
+}
+
+/// The fault at a place where no formula goes on, which an operand may have begun.
+fn fault_where(awaits_operand: bool, text: &str, place: usize) -> ParseFault
+    requires { place ≤ length text.now }
+    ensures { result ≡ ParseFault.Syntax (place + (if awaits_operand then begun_len (drop place text.now) else 0)) }
+{
+    let begun = if awaits_operand { begun_len(&text.as_bytes()[place..]) } else { 0 };
     ParseFault::Syntax(place + begun)
 }
 

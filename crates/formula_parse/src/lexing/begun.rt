@@ -1,9 +1,14 @@
-ghost use Rattle.std.specs.Prelude.{◌≡◌, ◌≤◌, ℕ, length, drop};
+ghost use Rattle.std.specs.Prelude.{◌≡◌, ◌≤◌, ◌+◌, ◌&&◌, ℕ, nat_lt, nat_le, slice_index, length, drop, IsTrue};
+ghost use Rattle.std.specs.Char.{is_ascii_control};
+ghost use Rattle.std.specs.List.{position_or_len};
+ghost use Rattle.std.specs.Str.{all_ascii_digits};
+ghost use Rattle.std.specs.Str.Parse.{digits_value};
 ghost use Rattle.cell_refs.specs.Written.{reference_at, capitals};
 ghost use Rattle.cell_refs.specs.Reading.{sheet_at};
 ghost use Rattle.formula_parse.specs.Lexing.{begun_len, error_begun, word_begun, name_begun, column_begun, row_begun, mark_len, plain_begun, corner_begun, reference_begun, sheet_len, common_len};
 
-use super::words::word_len;
+use super::words::{begins_with, common_len, word_len};
+use super::{digits_len, stands_at, value};
 use cell_refs::read_ref;
 use cell_values::ErrorKind;
 
@@ -11,7 +16,6 @@ use cell_values::ErrorKind;
 const NAME: usize = 255;
 /// The last column and the last row of the grid.
 const COLUMNS: u64 = 16_384;
-
 const ROWS: u64 = 1_048_576;
 /// The number of sheets.
 const SHEETS: u64 = 64;
@@ -19,23 +23,29 @@ const SHEETS: u64 = 64;
 /// How many bytes at the front of the text some operand begins with, where none stands there whole.
 #[tactic(auto, unfolding(crate::specs::Lexing::begun_len))]
 pub(crate) fn begun_len(text: &[u8]) -> usize
-    ensures { result ≡ begun_len text.now }
+    ensures value { result ≡ begun_len text.now }
+    ensures within { result ≤ length text.now }
 {
     match text.first() {
-        Some(b'"') => 1
-            + text[1..]
-                .iter()
-                .take_while(|byte| !byte.is_ascii_control())
-                .count(),
+        Some(b'"') => 1 + content_len(&text[1..]),
         Some(b'#') => error_begun(text),
         Some(byte) if byte.is_ascii_alphabetic() || *byte == b'$' => word_begun(text),
         _ => 0,
     }
 }
 
+/// How many bytes stand before the first control character, or in all.
+fn content_len(text: &[u8]) -> usize
+    ensures value { result ≡ position_or_len is_ascii_control text.now }
+    ensures within { result ≤ length text.now }
+{
+    text.iter().take_while(|byte| !byte.is_ascii_control()).count()
+}
+
 /// How much of the text an error word begins with.
 fn error_begun(text: &[u8]) -> usize
-    ensures { result ≡ error_begun text.now }
+    ensures value { result ≡ error_begun text.now }
+    ensures within { result ≤ length text.now }
 {
     let kinds = [
         ErrorKind::Null,
@@ -53,27 +63,17 @@ fn error_begun(text: &[u8]) -> usize
     begun
 }
 
-/// How many bytes a word in upper case and the text have in common at their front, in any case.
-fn common_len(word: &[u8], text: &[u8]) -> usize
-    ensures { result ≡ common_len word.now (capitals text.now) }
-{
-    let pairs = word.iter().zip(text.iter());
-    pairs
-        .take_while(|(a, b)| **a == b.to_ascii_uppercase())
-        .count()
-}
-
 /// How much of the text a call, a boolean, a reference or an area begins with.
 fn word_begun(text: &[u8]) -> usize
-    ensures { result ≡ word_begun text.now }
+    ensures value { result ≡ word_begun text.now }
+    ensures within { result ≤ length text.now }
 {
-    name_begun(text)
-        .max(reference_begun(text))
-        .max(corner_begun(text))
+    name_begun(text).max(reference_begun(text)).max(corner_begun(text))
 }
 
 fn name_begun(text: &[u8]) -> usize
-    ensures { result ≡ name_begun text.now }
+    ensures value { result ≡ name_begun text.now }
+    ensures within { result ≤ length text.now }
 {
     match text.first() {
         Some(byte) if byte.is_ascii_alphabetic() => word_len(text).min(NAME),
@@ -82,7 +82,8 @@ fn name_begun(text: &[u8]) -> usize
 }
 
 fn reference_begun(text: &[u8]) -> usize
-    ensures { result ≡ reference_begun text.now }
+    ensures value { result ≡ reference_begun text.now }
+    ensures within { result ≤ length text.now }
 {
     let sheet = sheet_len(text);
     sheet + plain_begun(&text[sheet..])
@@ -90,42 +91,36 @@ fn reference_begun(text: &[u8]) -> usize
 
 /// The length of the sheet part at the front, 0 where there is none.
 fn sheet_len(text: &[u8]) -> usize
-    ensures { result ≡ sheet_len text.now (sheet_at (capitals text.now)) }
+    ensures value { result ≡ sheet_len text.now (sheet_at (capitals text.now)) }
+    ensures within { result ≤ length text.now }
 {
-    let Some(word) = text.get(..5) else {
-        return 0;
-    };
-    if !word.eq_ignore_ascii_case(b"SHEET") {
+    if !begins_with(b"SHEET", text) {
         return 0;
     }
-    let digits = number_len(&text[5..], SHEETS);
-    if 0 < digits && text.get(5 + digits) == Some(&b'!') {
-        6 + digits
+    let number = &text[5..];
+    let len = digits_len(number);
+    if is_sheet(&number[..len]) && stands_at(number, len, b'!') {
+        6 + len
     } else {
         0
     }
 }
 
-/// The length of a number from 1 to a limit, its digits taken as far as they stay within it.
-fn number_len(text: &[u8], limit: u64) -> usize {
-    let mut number = 0;
-    let mut len = 0;
-    for byte in text {
-        if !byte.is_ascii_digit() {
-            break;
-        }
-        number = 10 * number + u64::from(byte - b'0');
-        if number == 0 || limit < number {
-            break;
-        }
-        len += 1;
+/// Whether digits are the number of a sheet.
+fn is_sheet(digits: &[u8]) -> bool
+    requires { IsTrue (all_ascii_digits digits.now) }
+    ensures { result ≡ (nat_lt 48 (slice_index digits.now 0) && nat_le (digits_value 10 digits.now) 64) }
+{
+    match digits.first() {
+        Some(first) => b'0' < *first && value(digits) <= SHEETS,
+        None => false,
     }
-    len
 }
 
 /// How much of the text a reference without a sheet begins with.
 fn plain_begun(text: &[u8]) -> usize
-    ensures { result ≡ plain_begun text.now }
+    ensures value { result ≡ plain_begun text.now }
+    ensures within { result ≤ length text.now }
 {
     let first = mark_len(text, 0);
     let letters = column_begun(&text[first..]);
@@ -139,43 +134,55 @@ fn plain_begun(text: &[u8]) -> usize
 
 /// 1 where a `$` stands at the place, else 0.
 fn mark_len(text: &[u8], place: usize) -> usize
-    ensures { result ≡ mark_len text.now place }
+    ensures value { result ≡ mark_len text.now place }
+    ensures within { place ≤ length text.now → place + result ≤ length text.now }
 {
-    if text.get(place) == Some(&b'$') { 1 } else { 0 }
+    if stands_at(text, place, b'$') { 1 } else { 0 }
 }
 
 /// How many letters name a column inside the grid.
 fn column_begun(text: &[u8]) -> usize
-    ensures { result ≡ column_begun 0 text.now }
+    ensures value { result ≡ column_begun 0 text.now }
+    ensures within { result ≤ length text.now }
 {
     let mut column = 0;
-    let mut len = 0;
-    for byte in text {
+    for (len, byte) in text.iter().enumerate() {
         if !byte.is_ascii_alphabetic() {
-            break;
+            return len;
         }
         column = 26 * column + u64::from(byte.to_ascii_uppercase() - b'A' + 1);
         if COLUMNS < column {
-            break;
+            return len;
         }
-        len += 1;
     }
-    len
+    text.len()
 }
 
 /// How many digits name a row inside the grid.
 fn row_begun(text: &[u8]) -> usize
-    ensures { result ≡ row_begun 0 text.now }
+    ensures value { result ≡ row_begun 0 text.now }
+    ensures within { result ≤ length text.now }
 {
-    number_len(text, ROWS)
+    let mut row = 0;
+    for (len, byte) in text.iter().enumerate() {
+        if !byte.is_ascii_digit() {
+            return len;
+        }
+        row = 10 * row + u64::from(byte - b'0');
+        if row == 0 || ROWS < row {
+            return len;
+        }
+    }
+    text.len()
 }
 
 /// How much of the text an area begins with, where its first corner stands there.
 fn corner_begun(text: &[u8]) -> usize
-    ensures { result ≡ corner_begun text.now (reference_at text.now) }
+    ensures value { result ≡ corner_begun text.now (reference_at text.now) }
+    ensures within { result ≤ length text.now }
 {
     match read_ref(text) {
-        Some((_, len)) if text.get(len) == Some(&b':') => {
+        Some((_, len)) if stands_at(text, len, b':') => {
             len + 1 + plain_begun(&text[len + 1..])
         }
         _ => 0,

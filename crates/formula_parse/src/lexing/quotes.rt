@@ -1,33 +1,33 @@
-ghost use Rattle.std.specs.Prelude.{◌≡◌, ◌≤◌, length, drop, ◌⊎◌};
-ghost use Rattle.formula_parse.specs.Lexing.{text_behind};
+ghost use Rattle.std.specs.Prelude.{◌≡◌, ◌≤◌, length, option_map, IfOk, ◌⊎◌};
+ghost use Rattle.std.specs.String.{string_bytes};
+ghost use Rattle.formula_parse.specs.Lexing.{text_behind, content_at};
 
 use super::super::faults::ParseFault;
 use super::super::tokens::Token;
 use super::Found;
 use cell_values::{Text, TextFault};
-use std::alloc::Global;
+use std::alloc::{AllocError, Global};
 
-/// The text whose content begins at this place, behind its first `"`.
-pub(super) fn text_behind(alloc: Global, text: &str, place: usize) -> Result<Found, ParseFault>
-    requires within { place ≤ length text.now }
-    requires short { length text.now ≤ 32768 }
-    ensures { (result ≡ Err ParseFault.Memory) ⊎ (result ≡ Ok (text_behind (drop place text.now))) }
+/// The text behind its first `"`.
+pub(super) fn text_behind(alloc: Global, rest: &str) -> Result<Found, ParseFault>
+    requires { length rest.now ≤ 32768 }
+    ensures { (result ≡ Err ParseFault.Memory) ⊎ (result ≡ Ok (text_behind rest.now)) }
 {
-    let Some(rest) = text.get(place..) else {
+    let Some((content, len)) = content(alloc, rest)? else {
         return Ok(None);
     };
-    match content(alloc, rest)? {
-        None => Ok(None),
-        Some((content, len)) => match Text::new(alloc, content.as_str()) {
-            Ok(text) => Ok(Some((Token::Text(text), len + 1))),
-            Err(TextFault::Memory) => Err(ParseFault::Memory),
-            Err(_) => Ok(None),
-        },
+    match Text::new(alloc, content.as_str()) {
+        Ok(text) => Ok(Some((Token::Text(text), len + 1))),
+        Err(TextFault::Memory) => Err(ParseFault::Memory),
+        Err(TextFault::TooLong) => Ok(None),
+        Err(TextFault::Control(_)) => Ok(None),
     }
 }
 
-/// The content up to the closing `"`, each doubled one made one, and the length up to there.
-fn content(alloc: Global, text: &str) -> Result<Option<(String, usize)>, ParseFault> {
+/// The content up to the closing `"`, each doubled one made one, and the length up to behind it.
+fn content(alloc: Global, text: &str) -> Result<Option<(String, usize)>, AllocError>
+    ensures { IfOk result (λ found. option_map (λ x. (string_bytes x.0, x.1)) found ≡ content_at text.now) }
+{
     let mut content = String::new(alloc);
     let mut rest = text;
     while let Some((before, after)) = rest.split_once('"') {

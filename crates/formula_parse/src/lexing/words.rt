@@ -1,20 +1,30 @@
-ghost use Rattle.std.specs.Prelude.{◌≡◌, ℕ, ◌≤◌, Bool, ◌+◌, length, take, drop, ◌⊎◌, take_while};
-ghost use Rattle.cell_refs.specs.Written.{reference_at};
+ghost use Rattle.std.specs.Prelude.{◌≡◌, ℕ, ◌≤◌, Bool, ◌+◌, length, take, drop, ◌⊎◌, take_while, if◌then◌else◌, Some, None, IfOk};
+ghost use Rattle.std.specs.List.{find};
+ghost use Rattle.std.specs.Str.{bytes_eq};
+ghost use Rattle.cell_refs.specs.Written.{reference_at, capitals};
 ghost use Rattle.cell_values.specs.Error.{error_word};
-ghost use Rattle.cell_values.specs.Name.{is_name_byte};
-ghost use Rattle.formula_parse.specs.Lexing.{error_at, word_at, word_found, reference_found, area_behind, begins_with, passes_at};
+ghost use Rattle.cell_values.specs.Name.{is_name, is_name_byte};
+ghost use Rattle.formula_parse.specs.Lexing.{error_at, word_at, word_found, reference_found, area_behind, all_errors, begins_with, common_len, passes_at};
 ghost use Rattle.formula_parse.specs.Tokens.{is_word_byte};
 
 use super::super::faults::ParseFault;
 use super::super::tokens::Token;
-use super::Found;
+use super::{Found, stands_at};
 use cell_refs::{RefText, read_ref};
 use cell_values::{ErrorKind, Name, NameFault};
-use std::alloc::Global;
+use std::alloc::{AllocError, Global};
 
 /// The error word at the front.
 pub(super) fn error(text: &[u8]) -> Found
     ensures { result ≡ error_at text.now }
+{
+    let kind = error_kind(text)?;
+    Some((Token::Error(kind), kind.word().len()))
+}
+
+/// The error value whose word stands at the front.
+fn error_kind(text: &[u8]) -> Option<ErrorKind>
+    ensures { result ≡ find (λ e. begins_with (error_word e) text.now) all_errors }
 {
     let kinds = [
         ErrorKind::Null,
@@ -25,22 +35,35 @@ pub(super) fn error(text: &[u8]) -> Found
         ErrorKind::Num,
         ErrorKind::Na,
     ];
-    for kind in kinds {
-        if begins_with(kind.word().as_bytes(), text) {
-            return Some((Token::Error(kind), kind.word().len()));
-        }
-    }
-    None
+    kinds.iter().copied().find(|kind| begins_with(kind.word().as_bytes(), text))
 }
 
 /// Whether the text begins with a word in upper case, in any case.
-fn begins_with(word: &[u8], text: &[u8]) -> bool
+pub(super) fn begins_with(word: &[u8], text: &[u8]) -> bool
     ensures { result ≡ begins_with word.now text.now }
 {
-    match text.get(..word.len()) {
-        Some(front) => front.eq_ignore_ascii_case(word),
-        None => false,
+    common_len(word, text) == word.len()
+}
+
+/// Whether the text is a word in upper case, in any case.
+fn is_word(text: &[u8], word: &[u8]) -> bool
+    ensures { result ≡ bytes_eq (capitals text.now) word.now }
+{
+    text.len() == word.len() && begins_with(word, text)
+}
+
+/// How many bytes a word in upper case and the text have in common at their front, in any case.
+pub(super) fn common_len(word: &[u8], text: &[u8]) -> usize
+    ensures value { result ≡ common_len word.now (capitals text.now) }
+    ensures within { result ≤ length text.now }
+{
+    let most = word.len().min(text.len());
+    for place in 0..most {
+        if word[place] != text[place].to_ascii_uppercase() {
+            return place;
+        }
     }
+    most
 }
 
 /// The token that begins with a letter or a `$`.
@@ -49,14 +72,14 @@ pub(super) fn word(alloc: Global, text: &[u8]) -> Result<Found, ParseFault>
 {
     let len = word_len(text);
     let word = &text[..len];
-    if text.get(len) == Some(&b'(') {
+    if stands_at(text, len, b'(') {
         if let Some(name) = name(alloc, word)? {
             return Ok(Some((Token::Call(name), len + 1)));
         }
     }
-    if word.eq_ignore_ascii_case(b"TRUE") {
+    if is_word(word, b"TRUE") {
         Ok(Some((Token::Boolean(true), 4)))
-    } else if word.eq_ignore_ascii_case(b"FALSE") {
+    } else if is_word(word, b"FALSE") {
         Ok(Some((Token::Boolean(false), 5)))
     } else {
         Ok(reference(text))
@@ -77,14 +100,16 @@ fn is_name_byte(byte: u8) -> bool
 }
 
 /// The name that bytes are, in upper case.
-fn name(alloc: Global, word: &[u8]) -> Result<Option<Name>, ParseFault> {
+fn name(alloc: Global, word: &[u8]) -> Result<Option<Name>, AllocError>
+    ensures { IfOk result (λ name. name ≡ (if is_name word.now then Some (capitals word.now) else None)) }
+{
     let Ok(word) = std::str::from_utf8(word) else {
         return Ok(None);
     };
     let word = word.to_ascii_uppercase(alloc)?;
     match Name::new(alloc, word.as_str()) {
         Ok(name) => Ok(Some(name)),
-        Err(NameFault::Memory) => Err(ParseFault::Memory),
+        Err(NameFault::Memory) => Err(AllocError),
         Err(NameFault::Form) => Ok(None),
     }
 }
@@ -94,7 +119,7 @@ fn reference(text: &[u8]) -> Found
     ensures { result ≡ reference_found text.now (reference_at text.now) }
 {
     let (first, len) = read_ref(text)?;
-    if text.get(len) == Some(&b':') {
+    if stands_at(text, len, b':') {
         area(text, first, len)
     } else if is_word_byte_at(text, len) {
         None

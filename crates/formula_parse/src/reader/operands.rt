@@ -29,7 +29,9 @@ pub(super) fn operand(
             Ok(Some((Phase::Signs(0), frames)))
         }
         Token::Call(name) => {
-            let calls = calls_open(&frames) + 1;
+            let Some(calls) = calls_open(&frames).checked_add(1) else {
+                return Err(AllocError);
+            };
             let arguments = Items::new(alloc);
             let opened = Opened::Call { name, arguments };
             let frames = with_frame(alloc, opened, minuses, calls, frames)?;
@@ -94,10 +96,13 @@ pub(super) fn empty_call(alloc: Global, frames: Stack<Frame>) -> Result<Turn, Al
     let Some((frame, frames)) = frames.split() else {
         return Ok(None);
     };
-    match frame.opened {
+    let Frame {
+        opened, minuses, ..
+    } = frame;
+    match opened {
         Opened::Call { name, arguments } => {
             let call = Node::Call { name, arguments };
-            after_operand(alloc, frame.minuses, frames, Some(call))
+            after_operand(alloc, minuses, frames, Some(call))
         }
         _ => Ok(None),
     }
