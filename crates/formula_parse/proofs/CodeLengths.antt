@@ -112,10 +112,10 @@ word_fits text word l =
     either text (passes_at (λ b. b == 40) text (length word) && is_name word) _ _
     (λ e. let within : length word < length text = passes_within (λ b. b == 40) text (length word) (both_true _ _ e).0 in (omega arith, omega arith))
     (λ _. either text (bytes_eq (capitals word) (codes "TRUE")) _ _
-      (λ e. (omega arith, upper_long text word (codes "TRUE") l e))
-      (λ _. either text (bytes_eq (capitals word) (codes "FALSE")) _ _
-        (λ e. (omega arith, upper_long text word (codes "FALSE") l e))
-        (λ _. found_fits text (reference_at text) (reference_fits text))))
+    (λ e. (omega arith, upper_long text word (codes "TRUE") l e))
+    (λ _. either text (bytes_eq (capitals word) (codes "FALSE")) _ _
+    (λ e. (omega arith, upper_long text word (codes "FALSE") l e))
+    (λ _. found_fits text (reference_at text) (reference_fits text))))
 
 abbrev operator_token : Option Operator → Option (Token × ℕ)
 operator_token o = option_map (λ op. (tokens.Operator op, operator_len op)) o
@@ -143,18 +143,18 @@ operator_fits : (b : ℕ) (rest : List ℕ) → IsFitting (b ∷ rest) (operator
 operator_fits b rest =
     either_operator (b ∷ rest) (b == 61) _ _ (λ _. (omega arith, omega arith))
     (λ _. either_operator (b ∷ rest) (b == 60) _ _ (λ _. less_fits b rest)
-      (λ _. either_operator (b ∷ rest) (b == 62) _ _ (λ _. greater_fits b rest)
-        (λ _. either_operator (b ∷ rest) (b == 38) _ _ (λ _. (omega arith, omega arith))
-          (λ _. either_operator (b ∷ rest) (b == 43) _ _ (λ _. (omega arith, omega arith))
-            (λ _. either_operator (b ∷ rest) (b == 45) _ _ (λ _. (omega arith, omega arith))
-              (λ _. either_operator (b ∷ rest) (b == 42) _ _ (λ _. (omega arith, omega arith))
-                (λ _. either_operator (b ∷ rest) (b == 47) _ _ (λ _. (omega arith, omega arith)) (λ _. tt))))))))
+    (λ _. either_operator (b ∷ rest) (b == 62) _ _ (λ _. greater_fits b rest)
+    (λ _. either_operator (b ∷ rest) (b == 38) _ _ (λ _. (omega arith, omega arith))
+    (λ _. either_operator (b ∷ rest) (b == 43) _ _ (λ _. (omega arith, omega arith))
+    (λ _. either_operator (b ∷ rest) (b == 45) _ _ (λ _. (omega arith, omega arith))
+    (λ _. either_operator (b ∷ rest) (b == 42) _ _ (λ _. (omega arith, omega arith))
+    (λ _. either_operator (b ∷ rest) (b == 47) _ _ (λ _. (omega arith, omega arith)) (λ _. tt))))))))
 
 mark_fits : (b : ℕ) (rest : List ℕ) → IsFitting (b ∷ rest) (mark_at b rest)
 mark_fits b rest =
     either (b ∷ rest) (b == 40) _ _ (λ _. (omega arith, omega arith))
     (λ _. either (b ∷ rest) (b == 41) _ _ (λ _. (omega arith, omega arith))
-      (λ _. either (b ∷ rest) (b == 44) _ _ (λ _. (omega arith, omega arith)) (λ _. operator_fits b rest)))
+    (λ _. either (b ∷ rest) (b == 44) _ _ (λ _. (omega arith, omega arith)) (λ _. operator_fits b rest)))
 
 token_fits : (text : List ℕ) → IsFitting text (token_at text)
 unfolding token_at
@@ -162,8 +162,8 @@ token_fits [] = tt
 token_fits (b ∷ rest) =
     either (b ∷ rest) (is_ascii_digit b) _ _ (λ d. number_fits b rest d)
     (λ _. either (b ∷ rest) (b == 34) _ _ (λ _. text_fits b rest)
-      (λ _. either (b ∷ rest) (b == 35) _ _ (λ _. error_fits (b ∷ rest) all_errors)
-        (λ _. either (b ∷ rest) (is_ascii_alphabetic b || b == 36) _ _ (λ _. word_fits (b ∷ rest) (take_while is_name_byte (b ∷ rest)) (omega (arith, length-prefix_len is_name_byte (b ∷ rest), prefix_len-le-length is_name_byte (b ∷ rest)))) (λ _. mark_fits b rest))))
+    (λ _. either (b ∷ rest) (b == 35) _ _ (λ _. error_fits (b ∷ rest) all_errors)
+    (λ _. either (b ∷ rest) (is_ascii_alphabetic b || b == 36) _ _ (λ _. word_fits (b ∷ rest) (take_while is_name_byte (b ∷ rest)) (omega (arith, length-prefix_len is_name_byte (b ∷ rest), prefix_len-le-length is_name_byte (b ∷ rest)))) (λ _. mark_fits b rest))))
 
 -- a token is longer than nothing, and no longer than the text
 pub token_within : (text : List ℕ) (token : Token) (len : ℕ) → token_at text ≡ Some (token, len) → (0 < len) × (len ≤ length text)

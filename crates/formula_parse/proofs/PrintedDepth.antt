@@ -132,8 +132,7 @@ front_rest : (m n : ℕ) (xs ys piece rest : List ℕ) → n ≡ length xs → l
 front_rest m n xs ys piece rest en ep e =
     let more : n + (m - n) ≡ m = omega (arith, ap length e, length-take m (xs ++ ys), length-append piece rest) in
     let behind : drop n (xs ++ ys) ≡ ys = ap (λ k. drop k (xs ++ ys)) en ∙ drop-append_seam xs ys in
-    let left : drop n (piece ++ rest) ≡ rest = ap (λ k. drop k (piece ++ rest)) (sym ep) ∙ drop-append_seam piece rest in
-    (
+    let left : drop n (piece ++ rest) ≡ rest = ap (λ k. drop k (piece ++ rest)) (sym ep) ∙ drop-append_seam piece rest in (
       m - n,
       sym left ∙ ap (drop n) (sym e) ∙ ap (λ k. drop n (take k (xs ++ ys))) (sym more) ∙ drop-take n (m - n) (xs ++ ys) ∙ ap (take (m - n)) behind,
     )
@@ -170,8 +169,7 @@ spelled_front : (text : List ℕ) (front back : List Token) → IsSpelled text (
 spelled_front text [] back s = (0, omega arith, refl)
 spelled_front text (t ∷ front) back s =
     let next = spelled_front s.2 front back s.7 in
-    let cut : take (length s.0 + (length s.1 + next.0)) text ≡ s.0 ++ (s.1 ++ take next.0 s.2) = ap (take (length s.0 + (length s.1 + next.0))) s.3 ∙ take-append-add s.0 (s.1 ++ s.2) (length s.1 + next.0) ∙ ap (λ x. s.0 ++ x) (take-append-add s.1 s.2 next.0) in
-    (
+    let cut : take (length s.0 + (length s.1 + next.0)) text ≡ s.0 ++ (s.1 ++ take next.0 s.2) = ap (take (length s.0 + (length s.1 + next.0))) s.3 ∙ take-append-add s.0 (s.1 ++ s.2) (length s.1 + next.0) ∙ ap (λ x. s.0 ++ x) (take-append-add s.1 s.2 next.0) in (
       length s.0 + (length s.1 + next.0),
       omega (arith, next.1, ap length s.3, length-append s.0 (s.1 ++ s.2), length-append s.1 s.2),
       (s.0, s.1, take next.0 s.2, cut, s.4, s.5, ends_in_front t s.2 next.0 s.6, next.2),

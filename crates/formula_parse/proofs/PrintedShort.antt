@@ -137,8 +137,7 @@ printed_short text rest us ts e s spelled thin =
     let a : IsAscii (61 ∷ []) = IsAscii-cons 61 [] (omega arith) IsAscii-nil in
     let r : IsUtf8 rest = rest_utf8 (61 ∷ []) rest u (behind_utf8 (61 ∷ []) rest (IsUtf8-from_ascii (61 ∷ []) a) u) in
     let k = spelled_short rest ts spelled r in
-    let t = thinned_short us ts thin k.0 in
-    (
+    let t = thinned_short us ts thin k.0 in (
       is_utf8-from_IsUtf8 _ (equals_utf8 _ (tokens_utf8 us t.0)),
       omega (arith, s.1, k.1, t.1, ap (λ bytes. length (chars bytes)) e, equals_count rest, equals_count (flat_map token_text us)),
     )

@@ -108,7 +108,11 @@ fn fault_where(awaits_operand: bool, text: &str, place: usize) -> ParseFault
     requires { place ≤ length text.now }
     ensures { result ≡ ParseFault.Syntax (place + (if awaits_operand then begun_len (drop place text.now) else 0)) }
 {
-    let begun = if awaits_operand { begun_len(&text.as_bytes()[place..]) } else { 0 };
+    let begun = if awaits_operand {
+        begun_len(&text.as_bytes()[place..])
+    } else {
+        0
+    };
     ParseFault::Syntax(place + begun)
 }
 

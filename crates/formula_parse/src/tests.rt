@@ -49,7 +49,10 @@ fn a_formula_is_printed_canonically_and_reads_back(rt: HostRuntime) -> Result<()
         ("=1 <= 2", "=1<=2"),
         ("=1<>2>=3>4", "=1<>2>=3>4"),
         ("=sheet64!$xfd$1048576 : a1", ""),
-        ("=sheet64!$xfd$1048576:xfc$1048570", "=Sheet64!$XFD$1048576:XFC$1048570"),
+        (
+            "=sheet64!$xfd$1048576:xfc$1048570",
+            "=Sheet64!$XFD$1048576:XFC$1048570",
+        ),
         ("=SHEET1!a1", "=Sheet1!A1"),
         ("=sum( a1:b2 , 3 )", "=SUM(A1:B2,3)"),
         ("=((1))", "=((1))"),

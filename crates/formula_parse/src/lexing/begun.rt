@@ -16,6 +16,7 @@ use cell_values::ErrorKind;
 const NAME: usize = 255;
 /// The last column and the last row of the grid.
 const COLUMNS: u64 = 16_384;
+
 const ROWS: u64 = 1_048_576;
 /// The number of sheets.
 const SHEETS: u64 = 64;
@@ -39,7 +40,9 @@ fn content_len(text: &[u8]) -> usize
     ensures value { result ≡ position_or_len is_ascii_control text.now }
     ensures within { result ≤ length text.now }
 {
-    text.iter().take_while(|byte| !byte.is_ascii_control()).count()
+    text.iter()
+        .take_while(|byte| !byte.is_ascii_control())
+        .count()
 }
 
 /// How much of the text an error word begins with.
@@ -68,7 +71,9 @@ fn word_begun(text: &[u8]) -> usize
     ensures value { result ≡ word_begun text.now }
     ensures within { result ≤ length text.now }
 {
-    name_begun(text).max(reference_begun(text)).max(corner_begun(text))
+    name_begun(text)
+        .max(reference_begun(text))
+        .max(corner_begun(text))
 }
 
 fn name_begun(text: &[u8]) -> usize
@@ -182,9 +187,7 @@ fn corner_begun(text: &[u8]) -> usize
     ensures within { result ≤ length text.now }
 {
     match read_ref(text) {
-        Some((_, len)) if stands_at(text, len, b':') => {
-            len + 1 + plain_begun(&text[len + 1..])
-        }
+        Some((_, len)) if stands_at(text, len, b':') => { len + 1 + plain_begun(&text[len + 1..]) }
         _ => 0,
     }
 }

@@ -35,7 +35,10 @@ fn error_kind(text: &[u8]) -> Option<ErrorKind>
         ErrorKind::Num,
         ErrorKind::Na,
     ];
-    kinds.iter().copied().find(|kind| begins_with(kind.word().as_bytes(), text))
+    kinds
+        .iter()
+        .copied()
+        .find(|kind| begins_with(kind.word().as_bytes(), text))
 }
 
 /// Whether the text begins with a word in upper case, in any case.

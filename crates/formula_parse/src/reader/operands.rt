@@ -97,7 +97,9 @@ pub(super) fn empty_call(alloc: Global, frames: Stack<Frame>) -> Result<Turn, Al
         return Ok(None);
     };
     let Frame {
-        opened, minuses, ..
+        opened,
+        minuses,
+        ..
     } = frame;
     match opened {
         Opened::Call { name, arguments } => {

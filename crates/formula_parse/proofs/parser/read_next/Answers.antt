@@ -47,7 +47,7 @@ returns-in-Some-2-2-clause-value c =
     inr (onward_turn c.args.reader c.in-Some-2.next text c.args.place c.gap_len.result c.in-Some.token c.in-Some.len gap before (answered _ _ c.in_ok-token.ensures ∙ c.in-Some.is) (sym c.in-Some-2.is ∙ c.in_ok-with.ensures) (sym c.is_too_deep.ensures ∙ c.if-is_too_deep.false))
 
 pub returns-in-Some-2-2-clause-on : goal.returns-in-Some-2-2-clause-on
-returns-in-Some-2-2-clause-on c = 
+returns-in-Some-2-2-clause-on c =
     let text = c.args.text.now in
     let gap = gap_is text c.as_bytes.result.now c.args.place c.gap_len.result c.as_bytes.ensures.value c.gap_len.ensures in
     let within = gap_within text c.args.place c.gap_len.result c.requires.within gap in

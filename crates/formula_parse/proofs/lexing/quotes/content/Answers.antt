@@ -16,10 +16,11 @@ loop-before-preserved c =
     let quote = MatchOption-at_some _ _ c.in-Some-strip_prefix.next c.in-Some-strip_prefix.is (strip_prefix_char 34 after c.strip_prefix.result c.strip_prefix.ensures.cases (lit< tt)) in
     let more : string_bytes c.push.new.self ≡ (string_bytes c.loop-before.content ++ before) ++ (34 ∷ []) = c.in_ok-push-in-Some-strip_prefix.ensures.bytes ∙ (ap (λ x. string_bytes c.push_str.new.self ++ x) (c.in_ok-push-in-Some-strip_prefix.ensures.ascii (lit< tt)) ∙ ap (λ x. x ++ (34 ∷ [])) c.in_ok-push_str.ensures.bytes) in
     let long : length rest ≡ length before + (length next + 2) = ap length parts.0 ∙ omega (arith, length-append before (34 ∷ after), ap length quote) in
-    let within : length rest ≤ length whole = c.loop-before.invariant.2 in
-    (utf8_next rest before after next c.loop-before.invariant.0 parts.0 quote,
-    doubled whole (string_bytes c.loop-before.content) _ rest before after next (length whole - length rest) (length whole - length next) c.loop-before.invariant.1 parts.0 parts.1 quote more (omega (arith, long, within)),
-    omega (arith, long, within))
+    let within : length rest ≤ length whole = c.loop-before.invariant.2 in (
+      utf8_next rest before after next c.loop-before.invariant.0 parts.0 quote,
+      doubled whole (string_bytes c.loop-before.content) _ rest before after next (length whole - length rest) (length whole - length next) c.loop-before.invariant.1 parts.0 parts.1 quote more (omega (arith, long, within)),
+      omega (arith, long, within),
+    )
 
 pub returns-in-None : goal.returns-in-None
 returns-in-None c =
