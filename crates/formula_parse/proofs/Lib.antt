@@ -1,6 +1,8 @@
 -- Lemmas of this crate.
+pub mod CodeBytes
 pub mod CodeDigits
 pub mod CodeLengths
+pub mod CodeLoop
 pub mod CodeNames
 pub mod CodeQuotes
 pub mod CodeReading
