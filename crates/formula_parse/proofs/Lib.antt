@@ -1,6 +1,7 @@
 -- Lemmas of this crate.
 pub mod CodeBytes
 pub mod CodeDigits
+pub mod CodeFaults
 pub mod CodeLengths
 pub mod CodeLoop
 pub mod CodeNames

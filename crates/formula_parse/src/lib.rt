@@ -11,6 +11,8 @@ mod parser;
 mod printer;
 mod reader;
 mod stack;
+#[cfg(test)]
+mod tests;
 mod tokens;
 mod trees;
 
