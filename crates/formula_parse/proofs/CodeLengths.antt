@@ -78,7 +78,7 @@ error_fits text (e ∷ es) = step (begins_with (error_word e) text) (find (λ e.
     step false o l h = h
 
 -- a byte that passes a test stands in the text
-passes_within : (test : ℕ → Bool) (text : List ℕ) (place : ℕ) → passes_at test text place ≡ true → place < length text
+pub passes_within : (test : ℕ → Bool) (text : List ℕ) (place : ℕ) → passes_at test text place ≡ true → place < length text
 passes_within test text place e = ltb-true place (length text) (both_true (nat_lt place (length text)) (test (slice_index text place)) e).0
 
 abbrev IsFittingReference : List ℕ → Option (RefText × ℕ) → Type 0

@@ -2,8 +2,11 @@
 pub mod Causes
 pub mod ChainLinks
 pub mod ChainTaken
+pub mod CodeBytes
 pub mod CodeDigits
+pub mod CodeFaults
 pub mod CodeLengths
+pub mod CodeLoop
 pub mod CodeNames
 pub mod CodeQuotes
 pub mod CodeReading

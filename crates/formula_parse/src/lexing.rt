@@ -69,7 +69,7 @@ fn value(digits: &[u8]) -> u64
 }
 
 /// Whether this byte stands at a place.
-fn stands_at(text: &[u8], place: usize, byte: u8) -> bool
+pub(crate) fn stands_at(text: &[u8], place: usize, byte: u8) -> bool
     ensures { result ≡ passes_at (λ b. b == byte) text.now place }
 {
     text.get(place) == Some(&byte)

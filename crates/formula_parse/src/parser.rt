@@ -6,7 +6,7 @@ ghost use Rattle.formula_parse.specs.Reading.{formula_of, is_too_long, parsed, r
 ghost use Rattle.formula_parse.specs.Turns.{told, IsBefore, IsFormulaRead};
 
 use super::faults::ParseFault;
-use super::lexing::{begun_len, token_at};
+use super::lexing::{begun_len, stands_at, token_at};
 use super::nodes::Node;
 use super::reader::Reader;
 use super::trees::Tree;
@@ -55,7 +55,7 @@ fn read_formula(alloc: Global, text: &str) -> Result<Tree, ParseFault>
     requires { IsShort text.now }
     ensures { (result ≡ Err ParseFault.Memory) ⊎ (result ≡ read_text text.now) }
 {
-    if text.as_bytes().first() != Some(&b'=') {
+    if !stands_at(text.as_bytes(), 0, b'=') {
         return Err(ParseFault::Syntax(0));
     }
     let mut reader = Reader::new(alloc)?;
