@@ -1,24 +1,23 @@
 -- What reading a text answers, in the words of the grammar.
-use Rattle.std.proofs.Common.{◌≡◌, ◌⊎◌, inl, inr, ⊎_elim, ◌↔◌, ℕ, zero, suc, ◌+◌, ◌<◌, ◌≤◌, Bool, true, false, not, ◌||◌, ◌==◌, List, [], ◌∷◌, ◌++◌, length, take, drop, Option, Some, None, Result, Ok, Err, if◌then◌else◌, refl, sym, ap, ◌∙◌, subst, arith, eqb-true, ltb-false, le-ltb}
+use Rattle.std.proofs.Common.{◌≡◌, inl, inr, ℕ, zero, suc, ◌+◌, Bool, true, false, ◌||◌, ◌==◌, List, [], ◌∷◌, ◌++◌, length, take, drop, Option, Some, None, Result, Ok, Err, if◌then◌else◌, refl, sym, ap, ◌∙◌, subst, arith, eqb-true, ltb-false, le-ltb}
 use Rattle.std.specs.List.{list_any}
 use Rattle.std.specs.Result.{result_ok}
 use Rattle.std.specs.Str.{is_utf8, chars}
-use Rattle.std.proofs.lemmas.List.{append-nil, append_assoc}
 use Rattle.std.proofs.lemmas.Option.{same_Some}
 use Rattle.formula_parse.specs.declared.faults.ParseFault.{ParseFault}
 use Rattle.formula_parse.specs.declared.faults.ParseFault.TheVariants as faults
 use Rattle.formula_parse.specs.declared.nodes.Node.{Node}
 use Rattle.formula_parse.specs.declared.reader.Reader.{Reader}
 use Rattle.formula_parse.specs.declared.tokens.Token.{Token}
-use Rattle.formula_parse.specs.Faults.{IsUnlimitedFormula, IsTooDeep, IsOverOpen, IsSyntaxPlace, IsViable, IsShort, IsShallow, IsFormula, IsSyntaxFault, IsRangeFault, IsNumberFault}
+use Rattle.formula_parse.specs.Faults.{IsUnlimitedFormula, IsTooDeep, IsOverOpen, IsSyntaxPlace, IsShort, IsFormula, IsSyntaxFault, IsRangeFault, IsNumberFault}
 use Rattle.formula_parse.specs.Reading.{ended, at_end, judged, first_reader, read_from, read_text, is_wide_area, is_large_number, is_too_long, parsed, formula_of}
 use Rattle.formula_parse.specs.Tokens.{IsSpelled, are_spaces}
 use Rattle.formula_parse.proofs.Depths.{deep_text, shallow_text, empty_not_over}
-use Rattle.formula_parse.proofs.Outcomes.{Outcome, Ends, EndsWhole, EndsStuck, EndsDeep, outcome_from}
+use Rattle.formula_parse.proofs.Outcomes.{Ends, outcome_from}
 use Rattle.formula_parse.proofs.Runs.{read_is_formula, reads_note_areas, reads_note_numbers}
 use Rattle.formula_parse.proofs.SyntaxPlaces.{stuck_place, end_place, no_equals_place}
 use Rattle.formula_parse.proofs.TokenReads.{Reads}
-use Rattle.formula_parse.proofs.Uniqueness.{AgreesWith, formula_agrees, stuck_is_no_formula}
+use Rattle.formula_parse.proofs.Uniqueness.{formula_agrees, stuck_is_no_formula}
 
 -- a formula, whatever its areas and numbers, that isn't too deep
 pub record Formed (text : List ℕ) (tree : Node) : Type 0 where

@@ -1,5 +1,5 @@
 -- Reading never answers that a text is too long.
-use Rattle.std.proofs.Common.{◌≡◌, ℕ, zero, suc, ◌+◌, ◌<◌, ◌≤◌, Bool, true, false, cond, eqb, List, [], ◌∷◌, length, drop, Option, Some, None, Result, Ok, Err, refl, sym, ap, ◌∙◌, ◌⊎◌, inl, inr, arith}
+use Rattle.std.proofs.Common.{◌≡◌, ℕ, zero, suc, ◌+◌, ◌<◌, ◌≤◌, Bool, true, false, cond, eqb, List, [], ◌∷◌, length, drop, Option, Some, None, Result, Ok, Err, sym, ◌∙◌, ◌⊎◌, inl, inr, arith}
 use Rattle.std.specs.Str.{chars}
 use Rattle.formula_parse.specs.declared.faults.ParseFault.{ParseFault}
 use Rattle.formula_parse.specs.declared.faults.ParseFault.TheVariants as faults
@@ -7,7 +7,7 @@ use Rattle.formula_parse.specs.declared.nodes.Node.{Node}
 use Rattle.formula_parse.specs.declared.reader.Reader.{Reader}
 use Rattle.formula_parse.specs.declared.tokens.Token.{Token}
 use Rattle.formula_parse.specs.Lexing.{token_at}
-use Rattle.formula_parse.specs.Reading.{Read, Answer, Onward, judged, at_end, ended, begun_behind, is_too_deep, stepped, read_on, read_found, read_token, read_next, gap_len, followed, read_from, first_reader, read_text}
+use Rattle.formula_parse.specs.Reading.{Read, Answer, Onward, at_end, ended, begun_behind, is_too_deep, stepped, read_on, read_found, read_token, read_next, gap_len, followed, read_from, first_reader, read_text}
 
 -- an answer that isn't that the text is too long
 abbrev IsOther : Result Node ParseFault → Type 0

@@ -1,5 +1,5 @@
 -- The token at the front of a text has some length, which is that of the text at most.
-use Rattle.std.proofs.Common.{◌≡◌, ℕ, ◌+◌, suc, ◌<◌, ◌≤◌, min, Bool, true, false, not, cond, ◌&&◌, ◌||◌, ◌==◌, nat_lt, slice_index, is_none, List, [], ◌∷◌, length, take, drop, take_while, Option, Some, None, codes, refl, ap, sym, subst, ◌∙◌, length-drop, arith}
+use Rattle.std.proofs.Common.{◌≡◌, ℕ, ◌+◌, suc, ◌<◌, ◌≤◌, Bool, true, false, not, cond, ◌&&◌, ◌||◌, ◌==◌, nat_lt, slice_index, is_none, List, [], ◌∷◌, length, take, drop, take_while, Option, Some, None, codes, refl, ap, subst, ◌∙◌, length-drop, arith}
 use Rattle.std.proofs.lemmas.Bool.{ltb-true}
 use Rattle.std.proofs.lemmas.List.{length-map, length-take}
 use Rattle.std.proofs.lemmas.List.Folds.{length-prefix_len}
@@ -18,10 +18,9 @@ use Rattle.cell_values.specs.declared.errors.ErrorKind.TheVariants as errors
 use Rattle.cell_values.specs.Error.{error_word}
 use Rattle.cell_values.specs.Name.{is_name, is_name_byte}
 use Rattle.formula_parse.specs.declared.operators.Operator.{Operator}
-use Rattle.formula_parse.specs.declared.operators.Operator.TheVariants as operators
 use Rattle.formula_parse.specs.declared.tokens.Token.{Token}
 use Rattle.formula_parse.specs.declared.tokens.Token.TheVariants as tokens
-use Rattle.formula_parse.specs.Lexing.{token_at, number_at, content_at, text_found, text_behind, all_errors, begins_with, error_at, passes_at, area_behind, reference_found, word_found, word_at, less_at, greater_at, operator_at, operator_len, mark_at}
+use Rattle.formula_parse.specs.Lexing.{token_at, number_at, content_at, text_found, text_behind, all_errors, begins_with, passes_at, area_behind, reference_found, word_found, less_at, greater_at, operator_at, operator_len, mark_at}
 use Rattle.formula_parse.specs.Tokens.{is_word_byte}
 use Rattle.formula_parse.proofs.CodeQuotes.{IsWithin, content_within}
 

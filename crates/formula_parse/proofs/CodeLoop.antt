@@ -1,5 +1,5 @@
 -- Reading a text turn by turn, as the code counts the turns.
-use Rattle.std.proofs.Common.{◌≡◌, ℕ, suc, ◌+◌, ◌-◌, ◌<◌, ◌≤◌, ◌==◌, eqb, nat_lt, ◌&&◌, Bool, true, false, cond, List, [], ◌∷◌, length, drop, get_or, Result, Ok, Err, refl, ap, sym, ◌∙◌, ◌⊎◌, inl, inr, arith}
+use Rattle.std.proofs.Common.{◌≡◌, ℕ, suc, ◌+◌, ◌-◌, ◌<◌, ◌≤◌, eqb, nat_lt, ◌&&◌, Bool, true, false, cond, List, [], ◌∷◌, length, drop, get_or, Result, Ok, Err, refl, ap, sym, ◌∙◌, ◌⊎◌, inl, inr, arith}
 use Rattle.std.proofs.lemmas.Bool.Decides.{nat_tests}
 use Rattle.formula_parse.specs.declared.faults.ParseFault.{ParseFault}
 use Rattle.formula_parse.specs.declared.faults.ParseFault.TheVariants as faults
@@ -23,6 +23,7 @@ begins (b ∷ rest) reader e r =
     second : (x y : Bool) → (x && y) ≡ true → y ≡ true
     second true y h = h
     second false y h = absurd (cc)
+
     chosen : (t : Bool) → t ≡ true → cond t (read_from (suc (length rest)) first_reader 1 rest) (Err (faults.Syntax 0)) ≡ read_from (suc (length rest)) first_reader 1 rest
     chosen t h = rw h refl
 
@@ -33,6 +34,7 @@ begins_not (b ∷ rest) e = refused (eqb b 61) (second (length rest) (eqb b 61) 
   where
     second : (n : ℕ) (y : Bool) → (nat_lt 0 (suc n) && y) ≡ false → y ≡ false
     second n y h = grind (arith, nat_tests)
+
     refused : (t : Bool) → t ≡ false → Err (faults.Syntax 0) ≡ cond t (read_from (suc (length rest)) first_reader 1 rest) (Err (faults.Syntax 0))
     refused t h = rw h refl
 

@@ -9,8 +9,6 @@ use Rattle.std.specs.Char.{is_ascii_control}
 use Rattle.std.specs.List.{list_any, position, position_from}
 use Rattle.std.specs.Option.{option_map}
 use Rattle.std.specs.Str.{IsUtf8, chars, chars_after, continuation_len, lead_bits}
-use Rattle.formula_parse.specs.declared.tokens.Token.{Token}
-use Rattle.formula_parse.specs.declared.tokens.Token.TheVariants as tokens
 use Rattle.formula_parse.specs.Lexing.{content_at, text_behind}
 
 -- no `"` among bytes

@@ -1,7 +1,7 @@
 -- The sheet part at the front of a text.
-use Rattle.std.proofs.Common.{◌≡◌, ℕ, ◌+◌, ◌-◌, suc, ◌<◌, ◌≤◌, Bool, true, false, cond, ◌&&◌, nat_lt, nat_le, slice_index, eqb, List, [], ◌∷◌, map, length, take, drop, take_while, get_or, Option, Some, None, codes, refl, ap, sym, ◌∙◌, arith, length-drop}
+use Rattle.std.proofs.Common.{◌≡◌, ℕ, ◌+◌, ◌<◌, ◌≤◌, Bool, true, false, cond, ◌&&◌, nat_lt, nat_le, slice_index, eqb, List, [], ◌∷◌, length, take, drop, take_while, get_or, Option, Some, None, codes, refl, ap, sym, ◌∙◌, arith, length-drop}
 use Rattle.std.proofs.lemmas.Bool.Decides.{nat_tests}
-use Rattle.std.proofs.lemmas.List.{at_drop_more, at_drop_all, length-map, drop-map, take-map}
+use Rattle.std.proofs.lemmas.List.{at_drop_more, at_drop_all, length-map, drop-map}
 use Rattle.std.specs.Char.{to_ascii_uppercase, is_ascii_digit}
 use Rattle.std.specs.Str.{bytes_eq}
 use Rattle.std.specs.Str.Parse.{digits_value}

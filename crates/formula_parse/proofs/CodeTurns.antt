@@ -1,5 +1,5 @@
 -- How many `-` a turn may add.
-use Rattle.std.proofs.Common.{◌≡◌, ℕ, ◌+◌, suc, ◌≤◌, ◌||◌, List, [], ◌∷◌, Option, Some, None, refl, subst, arith}
+use Rattle.std.proofs.Common.{◌≡◌, ℕ, ◌+◌, ◌≤◌, ◌||◌, List, [], ◌∷◌, Option, Some, None, subst, arith}
 use Rattle.std.specs.Option.{option_map}
 use Rattle.formula_parse.specs.declared.nodes.Node.{Node}
 use Rattle.formula_parse.specs.declared.operators.Operator.{Operator}
@@ -13,7 +13,7 @@ use Rattle.formula_parse.specs.declared.reader.Phase.TheVariants as phases
 use Rattle.formula_parse.specs.declared.reader.Reader.{Reader}
 use Rattle.formula_parse.specs.declared.tokens.Token.{Token}
 use Rattle.formula_parse.specs.declared.tokens.Token.TheVariants as tokens
-use Rattle.formula_parse.specs.Reading.{Turn, minuses_in, after_operand, operand_of, operand_turn, empty_call, start_turn, operator_turn, closing, close_turn, with_frame, with_argument, comma_turn, after_turn, finished, turn_at, stepped, is_wide_area, is_large_number}
+use Rattle.formula_parse.specs.Reading.{Turn, minuses_in, after_operand, operand_turn, empty_call, start_turn, operator_turn, closing, close_turn, with_frame, with_argument, comma_turn, after_turn, finished, turn_at, stepped, is_wide_area, is_large_number}
 
 -- no more `-` than this
 abbrev IsUpTo : ℕ → Option Turn → Type 0

@@ -1,7 +1,5 @@
 -- What was read goes on to a formula.
 use Rattle.std.proofs.Common.{◌≡◌, ◌⊎◌, inl, inr, ⊎_elim, ℕ, zero, suc, ◌+◌, ◌<◌, ◌≤◌, Bool, true, false, not, ◌||◌, ◌&&◌, ◌==◌, pos, List, [], ◌∷◌, ◌++◌, length, replicate, take, drop, Option, Some, None, IsSome, refl, sym, ap, ◌∙◌, subst, arith, codes}
-use Rattle.std.specs.List.{list_all}
-use Rattle.std.specs.Str.Parse.{IsNumeral}
 use Rattle.std.proofs.lemmas.List.{append-nil, append_assoc}
 use Rattle.std.proofs.lemmas.Option.{same_Some}
 use Rattle.formula_parse.specs.declared.nodes.Node.{Node}
@@ -13,7 +11,7 @@ use Rattle.formula_parse.specs.declared.tokens.Token.{Token}
 use Rattle.formula_parse.specs.declared.tokens.Token.TheVariants as tokens
 use Rattle.formula_parse.specs.Faults.{IsUnlimitedFormula, IsViable}
 use Rattle.formula_parse.specs.Grammar.{IsWritten}
-use Rattle.formula_parse.specs.Reading.{Turn, turn_at, ended, first_reader, awaits_operand}
+use Rattle.formula_parse.specs.Reading.{Turn, turn_at, first_reader, awaits_operand}
 use Rattle.formula_parse.specs.Tokens.{IsSpelled, Writes, are_spaces, goes_on_with}
 use Rattle.formula_parse.proofs.Machine.{first_turn, ran, ended_behind, is_operand}
 use Rattle.formula_parse.proofs.MachineLaws.{what_is_read_is_written, operands_are_taken, closing_ends}

@@ -1,33 +1,26 @@
 -- How much is open at the points of a text.
-use Rattle.std.proofs.Common.{◌≡◌, ◌⊎◌, inl, inr, ⊎_elim, ℕ, zero, suc, ◌+◌, ◌-◌, ◌<◌, ◌≤◌, Bool, true, false, not, ◌||◌, ◌&&◌, ◌==◌, pos, List, [], ◌∷◌, ◌++◌, length, replicate, take, drop, Option, Some, None, IsSome, option_and_then, Result, Ok, Err, refl, sym, ap, ◌∙◌, subst, arith, codes, ltb-true, ltb-false, nat_lt}
+use Rattle.std.proofs.Common.{◌≡◌, ◌⊎◌, inl, inr, ⊎_elim, ℕ, zero, suc, ◌<◌, Bool, true, false, ◌||◌, pos, List, [], ◌∷◌, ◌++◌, length, replicate, take, drop, Some, option_and_then, Result, refl, sym, ap, ◌∙◌, subst, arith, codes, ltb-true, ltb-false, nat_lt}
 use Rattle.std.specs.List.{count_by}
-use Rattle.std.proofs.lemmas.Bool.{or_cases, or_left, or_right}
+use Rattle.std.proofs.lemmas.Bool.{or_cases}
 use Rattle.std.proofs.lemmas.List.{append-nil, append_assoc, take-append-drop, length-append}
-use Rattle.std.proofs.lemmas.Option.{same_Some}
 use Rattle.std.proofs.Math.Seq.{take-append_seam}
 use Rattle.formula_parse.specs.declared.faults.ParseFault.{ParseFault}
 use Rattle.formula_parse.specs.declared.nodes.Node.{Node}
-use Rattle.formula_parse.specs.declared.operators.Operator.TheVariants as operators
-use Rattle.cell_values.specs.declared.comparison.CompareOp.TheVariants as compare
-use Rattle.formula_parse.specs.declared.reader.Frame.{Frame}
-use Rattle.formula_parse.specs.declared.reader.Phase.{Phase}
-use Rattle.formula_parse.specs.declared.reader.Phase.TheVariants as phases
 use Rattle.formula_parse.specs.declared.reader.Reader.{Reader}
 use Rattle.formula_parse.specs.declared.tokens.Token.{Token}
 use Rattle.formula_parse.specs.declared.tokens.Token.TheVariants as tokens
 use Rattle.formula_parse.specs.Faults.{IsUnlimitedFormula, IsTooDeep, IsOverOpen, open_behind}
 use Rattle.formula_parse.specs.Grammar.{IsWritten}
 use Rattle.formula_parse.specs.Lexing.{token_at}
-use Rattle.formula_parse.specs.Reading.{Turn, turn_at, stepped, ended, first_reader, awaits_operand, is_too_deep, calls_open}
+use Rattle.formula_parse.specs.Reading.{Turn, stepped, first_reader, awaits_operand, is_too_deep, calls_open}
 use Rattle.formula_parse.specs.Tokens.{IsSpelled, Writes, are_spaces, goes_on, goes_on_with}
-use Rattle.formula_parse.proofs.Completing.{Closed, closes, closed_behind, operand_closed, one_written, closes_end, closes_spell, gap_closes_spell}
+use Rattle.formula_parse.proofs.Completing.{closes, closed_behind, operand_closed, one_written, closes_end, closes_spell, gap_closes_spell}
 use Rattle.formula_parse.proofs.LexingLaws.{written_is_found}
-use Rattle.formula_parse.proofs.Machine.{first_turn, ran, ended_behind, is_operand}
+use Rattle.formula_parse.proofs.Machine.{first_turn, ran}
 use Rattle.formula_parse.proofs.MachineLaws.{what_is_written_is_read, open_is_counted}
 use Rattle.formula_parse.proofs.Outcomes.{IsStuck, EndsDeep}
 use Rattle.formula_parse.proofs.Runs.{turn_of, ran_on, reads_run, step_tells, refused_run}
 use Rattle.formula_parse.proofs.TokenReads.{Reads, IsSafe, is_full, piece_is_full, space_ends, read_before, spelled_by, safe_behind, head_is_safe, no_spaces, same_gap, full_front, same_piece}
-use Rattle.formula_parse.proofs.Uniqueness.{spelled_rest}
 
 -- too many frames are too many open calls and parentheses
 pub deep_is_over : (written : List Token) (turn : Turn) → ran first_turn written ≡ Some turn → is_too_deep turn.1 ≡ true → IsOverOpen written

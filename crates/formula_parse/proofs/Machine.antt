@@ -1,5 +1,5 @@
 -- The reader's turns over lists of tokens.
-use Rattle.std.specs.Prelude.{◌≡◌, ℕ, Bool, true, false, List, [], ◌∷◌, Option, Some, None, option_and_then}
+use Rattle.std.specs.Prelude.{Bool, true, false, List, [], ◌∷◌, Option, Some, option_and_then}
 use Rattle.formula_parse.specs.declared.nodes.Node.{Node}
 use Rattle.formula_parse.specs.declared.reader.Opened.TheVariants as opened
 use Rattle.formula_parse.specs.declared.reader.Phase.TheVariants as phases

@@ -1,11 +1,9 @@
 -- What a formula names and calls, over its tokens.
-use Rattle.std.proofs.Common.{◌≡◌, ℕ, suc, ◌+◌, ◌-◌, ◌*◌, ◌<◌, ◌≤◌, Bool, true, false, cond, List, [], ◌∷◌, ◌++◌, length, min, max, unwrap_or, Option, Some, None, All, refl, sym, ap, ◌∙◌, arith, nat_lt, subst}
+use Rattle.std.proofs.Common.{◌≡◌, ℕ, suc, ◌+◌, ◌-◌, ◌*◌, ◌≤◌, Bool, true, false, cond, List, [], ◌∷◌, ◌++◌, length, min, max, unwrap_or, Option, Some, None, All, refl, sym, ap, ◌∙◌, arith, subst}
 use Rattle.std.specs.List.{flat_map}
 use Rattle.std.proofs.lemmas.Bool.Decides.{nat_tests}
-use Rattle.std.proofs.lemmas.List.{length-append}
 use Rattle.std.proofs.lemmas.List.Elements.{All-nil, All-cons}
 use Rattle.cell_refs.specs.Area.{IsArea, area_of, size_of}
-use Rattle.cell_refs.specs.Cell.{IsCell}
 use Rattle.cell_refs.specs.RefText.{IsReference}
 use Rattle.cell_refs.specs.declared.areas.Area.{Area}
 use Rattle.cell_refs.specs.declared.references.RefText.{RefText}
@@ -14,7 +12,7 @@ use Rattle.formula_parse.specs.declared.tokens.Token.{Token}
 use Rattle.formula_parse.specs.declared.tokens.Token.TheVariants as tokens
 use Rattle.formula_parse.specs.Faults.{IsFormula}
 use Rattle.formula_parse.specs.Reading.{is_wide_area}
-use Rattle.formula_parse.specs.Tree.{IsTree, areas_named, areas_step, calls_step, chained, is_built_in, site_count, sites_named}
+use Rattle.formula_parse.specs.Tree.{IsTree, areas_named, areas_step, calls_step, is_built_in, site_count, sites_named}
 use Rattle.formula_parse.proofs.NamingCollected.{GivesNothing, Follows, collected}
 use Rattle.formula_parse.proofs.NamingTokens.{Each, each_fails, each_spelled, StandsInside, written_inside, tokens_are_few, short_text}
 use Rattle.formula_parse.proofs.NodeLaws.{fold_number, fold_text, fold_error, fold_boolean, fold_reference, fold_area, fold_call, fold_parentheses, fold_negation, fold_chain}

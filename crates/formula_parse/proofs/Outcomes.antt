@@ -1,6 +1,5 @@
 -- How reading a text ends.
-use Rattle.std.proofs.Common.{◌≡◌, ◌⊎◌, inl, inr, ℕ, zero, suc, ◌+◌, ◌-◌, ◌<◌, ◌≤◌, Bool, true, false, not, cond, ◌||◌, ◌==◌, List, [], ◌∷◌, ◌++◌, length, take, drop, take_while, slice_index, Option, Some, None, option_map, Result, Ok, Err, refl, sym, ap, ◌∙◌, subst, arith}
-use Rattle.std.specs.List.{list_all}
+use Rattle.std.proofs.Common.{◌≡◌, ◌⊎◌, inl, inr, ℕ, zero, suc, ◌+◌, ◌<◌, ◌≤◌, Bool, true, false, not, cond, ◌==◌, List, [], ◌∷◌, ◌++◌, length, take, drop, take_while, slice_index, Option, Some, None, option_map, Result, Err, refl, sym, ap, ◌∙◌, subst, arith}
 use Rattle.std.proofs.lemmas.List.{append_assoc, append-nil, take-append-drop, length-append, length-take-le, length-drop}
 use Rattle.std.proofs.lemmas.Bool.{and_from}
 use Rattle.std.proofs.lemmas.List.Sums.{take_while-cons}
@@ -12,7 +11,7 @@ use Rattle.formula_parse.specs.declared.nodes.Node.{Node}
 use Rattle.formula_parse.specs.declared.reader.Reader.{Reader}
 use Rattle.formula_parse.specs.declared.tokens.Token.{Token}
 use Rattle.formula_parse.specs.Lexing.{token_at}
-use Rattle.formula_parse.specs.Reading.{Turn, Read, Answer, Onward, turn_at, stepped, is_too_deep, ended, at_end, begun_behind, gap_len, read_from, read_next, read_token, read_found, read_on, followed}
+use Rattle.formula_parse.specs.Reading.{Turn, Answer, Onward, turn_at, stepped, is_too_deep, ended, at_end, begun_behind, gap_len, read_from, read_token, read_found, read_on, followed}
 use Rattle.formula_parse.specs.Tokens.{Writes, are_spaces, goes_on_with}
 use Rattle.formula_parse.proofs.LexingLaws.{found_is_written}
 use Rattle.formula_parse.proofs.TokenReads.{Reads, is_full}

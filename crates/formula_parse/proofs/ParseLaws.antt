@@ -1,5 +1,5 @@
 -- What parsing a text answers.
-use Rattle.std.proofs.Common.{◌≡◌, ◌⊎◌, inl, inr, ⊎_elim, ◌↔◌, ℕ, ◌<◌, ◌≤◌, Bool, true, false, List, length, Option, Some, None, Result, Ok, Err, if◌then◌else◌, refl, sym, ap, ◌∙◌, subst, arith, ltb-true, ltb-false, lt-ltb}
+use Rattle.std.proofs.Common.{◌≡◌, ◌⊎◌, inl, inr, ℕ, ◌<◌, Bool, true, false, List, length, Some, Result, Ok, Err, if◌then◌else◌, refl, sym, ap, ◌∙◌, subst, ltb-true, ltb-false, lt-ltb}
 use Rattle.std.specs.Str.{is_utf8, chars}
 use Rattle.formula_parse.specs.declared.faults.ParseFault.{ParseFault}
 use Rattle.formula_parse.specs.declared.faults.ParseFault.TheVariants as faults
@@ -39,7 +39,7 @@ unfolding parsed
 is_too_long_then text h = ap (λ b. if b then Err faults.TooLong else read_text text) (lt-ltb 8192 (length (chars text)) h)
 
 -- ---- the clauses of parsing
-abbrev Answers : List ℕ → Result Node ParseFault → Type 0
+abbrev pub Answers : List ℕ → Result Node ParseFault → Type 0
 Answers text result = (result ≡ Err faults.Memory) ⊎ (result ≡ parsed text)
 
 -- whether an answer is want of memory
@@ -70,3 +70,8 @@ range_clause text result u a e = let c = cause_if text (Err faults.BadRange) u (
 
 pub number_clause : (text : List ℕ) (result : Result Node ParseFault) → is_utf8 text ≡ true → Answers text result → result ≡ Err faults.NumberTooLarge → IsNumberFault text
 number_clause text result u a e = let c = cause_if text (Err faults.NumberTooLarge) u (meant text result (Err faults.NumberTooLarge) a e refl) refl in number_cause text c.0 c.1
+
+-- what is read of a short text is what is parsed of it
+pub exact_if_short : (text : List ℕ) (result : Result Node ParseFault) → IsShort text → (result ≡ Err faults.Memory) ⊎ (result ≡ read_text text) → Answers text result
+exact_if_short text result s (inl memory) = inl memory
+exact_if_short text result s (inr read) = inr (read ∙ sym (parsed_short text s))

@@ -1,5 +1,5 @@
 -- Where a formula begins with a front of what is printed, its tokens up to there are opened and closed in the text that was read, too.
-use Rattle.std.proofs.Common.{◌≡◌, ◌⊎◌, inl, inr, ⊎_elim, ℕ, zero, suc, ◌+◌, ◌-◌, ◌<◌, ◌≤◌, Bool, true, false, ◌&&◌, ◌||◌, ◌==◌, List, [], ◌∷◌, ◌++◌, length, take, drop, Option, Some, None, refl, sym, ap, ◌∙◌, subst, arith, append_assoc, append-nil, eqb-true}
+use Rattle.std.proofs.Common.{◌≡◌, ◌⊎◌, ⊎_elim, ℕ, zero, suc, ◌+◌, ◌-◌, ◌<◌, ◌≤◌, Bool, true, false, ◌==◌, List, [], ◌∷◌, ◌++◌, length, take, drop, Option, Some, None, refl, sym, ap, ◌∙◌, subst, arith, append-nil, eqb-true}
 use Rattle.std.specs.List.{count_by, flat_map}
 use Rattle.std.proofs.Math.Seq.{take-length, take-append-add, drop-append_seam}
 use Rattle.std.proofs.lemmas.Bool.{and_parts, cases_Bool}
@@ -7,11 +7,11 @@ use Rattle.std.proofs.lemmas.List.{length-append, length-take, take-append-drop,
 use Rattle.formula_parse.specs.declared.nodes.Node.{Node}
 use Rattle.formula_parse.specs.declared.tokens.Token.{Token}
 use Rattle.formula_parse.specs.declared.tokens.Token.TheVariants as tokens
-use Rattle.formula_parse.specs.Faults.{open_behind, IsOverOpen, IsTooDeep, IsUnlimitedFormula}
+use Rattle.formula_parse.specs.Faults.{open_behind, IsOverOpen, IsTooDeep}
 use Rattle.formula_parse.specs.Grammar.{IsWritten}
 use Rattle.formula_parse.specs.Lexing.{token_at}
 use Rattle.formula_parse.specs.Printing.{token_text}
-use Rattle.formula_parse.specs.Tokens.{IsSpelled, Writes, are_spaces, goes_on, goes_on_with}
+use Rattle.formula_parse.specs.Tokens.{IsSpelled, Writes, are_spaces, goes_on_with}
 use Rattle.formula_parse.proofs.LexingLaws.{written_is_found, found_again}
 use Rattle.formula_parse.proofs.NamingTokens.{Each, piece_long}
 use Rattle.formula_parse.proofs.PrintedFlow.{ends_operand, flows}

@@ -1,8 +1,8 @@
 -- The canonical text of a token writes it, in ASCII and in no more bytes than any other piece that writes it, or is that piece.
-use Rattle.std.proofs.Common.{◌≡◌, ◌⊎◌, inl, inr, ℕ, zero, suc, ◌+◌, ◌-◌, ◌^◌, ◌<◌, ◌≤◌, pos, unsigned_abs, min, Bool, true, false, ◌&&◌, nat_lt, nat_le, List, [], ◌∷◌, ◌++◌, map, length, Option, Some, None, codes, decimal, refl, sym, ap, ◌∙◌, subst, arith, append-nil, ltb-true, IsAscii}
-use Rattle.std.specs.Char.{is_ascii_alphabetic, is_ascii_digit, to_ascii_uppercase}
-use Rattle.std.specs.List.{list_all, list_any}
-use Rattle.std.specs.Str.Parse.{IsNumeral, AllDigits, digits_value}
+use Rattle.std.proofs.Common.{◌≡◌, ◌⊎◌, inl, inr, ℕ, suc, ◌^◌, ◌<◌, ◌≤◌, pos, unsigned_abs, min, Bool, true, false, ◌&&◌, nat_lt, nat_le, List, [], ◌∷◌, ◌++◌, length, Some, codes, decimal, refl, sym, ap, ◌∙◌, subst, arith, append-nil, ltb-true, IsAscii}
+use Rattle.std.specs.Char.{is_ascii_alphabetic, to_ascii_uppercase}
+use Rattle.std.specs.List.{list_all}
+use Rattle.std.specs.Str.Parse.{IsNumeral, digits_value}
 use Rattle.std.proofs.Math.Seq.{take-length}
 use Rattle.std.proofs.lemmas.Bool.{and_parts, and_from}
 use Rattle.std.proofs.lemmas.Bool.Decides.{nat_tests}
@@ -12,12 +12,12 @@ use Rattle.std.proofs.lemmas.List.{length-append, length-map}
 use Rattle.std.proofs.lemmas.Str.{IsAscii-append}
 use Rattle.std.proofs.lemmas.Str.Ascii.{IsAscii-nil, IsAscii-cons, IsAscii-map}
 use Rattle.cell_refs.specs.RefText.{IsReference}
-use Rattle.cell_refs.specs.Written.{capitals, StandsAt, reference_at, reference_text}
+use Rattle.cell_refs.specs.Written.{capitals, reference_at, reference_text}
 use Rattle.cell_refs.specs.declared.references.RefText.{RefText}
 use Rattle.cell_refs.proofs.Front.{ascii_reference, reference_reads_back, stands_from_read}
 use Rattle.cell_values.specs.Error.{error_word}
 use Rattle.cell_values.specs.Name.{is_name, is_name_byte}
-use Rattle.cell_values.specs.Word.{quoted, doubled}
+use Rattle.cell_values.specs.Word.{doubled}
 use Rattle.cell_values.specs.declared.comparison.CompareOp.TheVariants as compare
 use Rattle.cell_values.specs.declared.errors.ErrorKind.{ErrorKind}
 use Rattle.cell_values.specs.declared.errors.ErrorKind.TheVariants as errors

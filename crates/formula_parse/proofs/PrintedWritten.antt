@@ -1,11 +1,10 @@
 -- The tokens of a tree write the tree.
-use Rattle.std.proofs.Common.{◌≡◌, ◌⊎◌, inl, inr, ℕ, zero, suc, ℤ, Bool, List, [], ◌∷◌, ◌++◌, map, length, replicate, All, refl, sym, ap, ◌∙◌, subst}
+use Rattle.std.proofs.Common.{◌≡◌, inl, inr, ℕ, zero, suc, List, [], ◌∷◌, map, replicate, All, refl, sym, subst}
 use Rattle.std.proofs.lemmas.List.Elements.{All-head, All-tail}
 use Rattle.formula_parse.specs.declared.nodes.Node.{Node}
 use Rattle.formula_parse.specs.declared.operators.Operator.{Operator}
 use Rattle.formula_parse.specs.declared.tokens.Token.{Token}
-use Rattle.formula_parse.specs.declared.tokens.Token.TheVariants as tokens
-use Rattle.formula_parse.specs.Grammar.{Written, IsWritten, IsSigned, IsOne, IsEnclosed, AreSigns, AreArguments, IsChain, IsChainAt, place_of}
+use Rattle.formula_parse.specs.Grammar.{Written, IsWritten, IsSigned, AreSigns, AreArguments, IsChain, IsChainAt, place_of}
 use Rattle.formula_parse.specs.Printing.{tokens_of, tokens_step, separated, interleaved}
 use Rattle.formula_parse.proofs.NodeLaws.{node_induction, fold_number, fold_text, fold_error, fold_boolean, fold_reference, fold_area, fold_call, fold_parentheses, fold_negation, fold_chain, number_is_written, text_is_written, error_is_written, boolean_is_written, reference_is_written, area_is_written, call_is_written, parentheses_is_written, negation_is_written, chain_is_written}
 use Rattle.formula_parse.proofs.PrintedThinned.{minus}

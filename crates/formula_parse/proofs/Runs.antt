@@ -1,5 +1,5 @@
 -- What is read, as turns over tokens.
-use Rattle.std.proofs.Common.{◌≡◌, ◌⊎◌, inl, inr, ℕ, zero, suc, ◌+◌, ◌<◌, ◌≤◌, Bool, true, false, not, ◌||◌, ◌==◌, List, [], ◌∷◌, ◌++◌, length, Option, Some, None, option_map, option_and_then, Result, Ok, Err, refl, sym, ap, ◌∙◌, subst, arith}
+use Rattle.std.proofs.Common.{◌≡◌, ℕ, Bool, true, false, ◌||◌, List, [], ◌∷◌, ◌++◌, length, Option, Some, None, option_map, option_and_then, refl, sym, ap, ◌∙◌, subst}
 use Rattle.std.specs.List.{list_any}
 use Rattle.std.proofs.lemmas.List.{append-nil}
 use Rattle.std.proofs.lemmas.Option.{same_Some}
@@ -7,14 +7,12 @@ use Rattle.formula_parse.specs.declared.nodes.Node.{Node}
 use Rattle.formula_parse.specs.declared.reader.Reader.{Reader}
 use Rattle.formula_parse.specs.declared.tokens.Token.{Token}
 use Rattle.formula_parse.specs.Faults.{IsUnlimitedFormula}
-use Rattle.formula_parse.specs.Grammar.{IsWritten}
 use Rattle.formula_parse.specs.Lexing.{token_at}
 use Rattle.formula_parse.specs.Reading.{Turn, turn_at, stepped, ended, first_reader, is_wide_area, is_large_number}
 use Rattle.formula_parse.specs.Tokens.{IsSpelled, are_spaces}
 use Rattle.formula_parse.proofs.LexingLaws.{written_is_found}
-use Rattle.formula_parse.proofs.Machine.{first_turn, ran, ended_behind}
-use Rattle.formula_parse.proofs.MachineLaws.{what_is_read_is_written, what_is_written_is_read}
-use Rattle.formula_parse.proofs.Outcomes.{IsStuck}
+use Rattle.formula_parse.proofs.Machine.{ran}
+use Rattle.formula_parse.proofs.MachineLaws.{what_is_read_is_written}
 use Rattle.formula_parse.proofs.TokenReads.{Reads, is_full, piece_is_full, full_front, no_spaces, same_gap, spelled_by}
 
 -- the turn of a reader

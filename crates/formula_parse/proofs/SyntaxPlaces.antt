@@ -1,9 +1,7 @@
 -- The place where reading stops is the length of the longest front with which some formula begins.
-use Rattle.std.proofs.Common.{◌≡◌, ◌⊎◌, inl, inr, ⊎_elim, ℕ, zero, suc, ◌+◌, ◌-◌, ◌<◌, ◌≤◌, Bool, true, false, not, ◌||◌, ◌&&◌, ◌==◌, pos, List, [], ◌∷◌, ◌++◌, length, take, drop, Option, Some, None, IsSome, refl, sym, ap, ◌∙◌, subst, arith, codes, ltb, ltb-true, ltb-false, if◌then◌else◌}
+use Rattle.std.proofs.Common.{◌≡◌, inl, ℕ, zero, suc, ◌+◌, ◌-◌, ◌<◌, ◌≤◌, Bool, true, false, ◌==◌, pos, List, [], ◌∷◌, ◌++◌, length, take, drop, Option, Some, None, IsSome, refl, sym, ap, ◌∙◌, subst, arith, codes, ltb, ltb-true, ltb-false, if◌then◌else◌}
 use Rattle.std.proofs.lemmas.List.{append-nil, append_assoc, take-append-drop, take-append-le, length-append, length-take-le}
-use Rattle.std.proofs.lemmas.Option.{same_Some}
 use Rattle.std.proofs.Math.Seq.{take-append-add, take-length}
-use Rattle.formula_parse.specs.declared.nodes.Node.{Node}
 use Rattle.formula_parse.specs.declared.reader.Frame.{Frame}
 use Rattle.formula_parse.specs.declared.reader.Phase.{Phase}
 use Rattle.formula_parse.specs.declared.reader.Phase.TheVariants as phases
@@ -12,17 +10,17 @@ use Rattle.formula_parse.specs.declared.tokens.Token.{Token}
 use Rattle.formula_parse.specs.declared.tokens.Token.TheVariants as tokens
 use Rattle.formula_parse.specs.Faults.{IsUnlimitedFormula, IsViable, IsSyntaxPlace}
 use Rattle.formula_parse.specs.Lexing.{token_at, begun_len}
-use Rattle.formula_parse.specs.Reading.{Turn, turn_at, ended, first_reader, awaits_operand, begun_behind}
+use Rattle.formula_parse.specs.Reading.{Turn, turn_at, first_reader, awaits_operand, begun_behind}
 use Rattle.formula_parse.specs.Tokens.{IsSpelled, Writes, are_spaces, goes_on_with}
 use Rattle.formula_parse.proofs.Completing.{closes, closing_viable, operand_viable, viable_front, one_written}
 use Rattle.formula_parse.proofs.LexingLaws.{begun_is_within, begun_goes_on, no_operand_goes_on, no_operator_goes_on}
-use Rattle.formula_parse.proofs.Machine.{first_turn, ran, is_operand}
+use Rattle.formula_parse.proofs.Machine.{ran, is_operand}
 use Rattle.formula_parse.proofs.MachineLaws.{what_is_written_is_read, operands_are_taken}
 use Rattle.formula_parse.proofs.Marks.{marks_begin_nothing}
 use Rattle.formula_parse.proofs.Outcomes.{IsStuck}
-use Rattle.formula_parse.proofs.Runs.{turn_of, reads_run, refused_run}
+use Rattle.formula_parse.proofs.Runs.{turn_of, refused_run}
 use Rattle.formula_parse.proofs.TokenReads.{Reads, IsSafe, is_full, space_is_safe, head_is_safe, safe_behind, read_before, piece_is_full, full_front, same_gap, no_spaces}
-use Rattle.formula_parse.proofs.Uniqueness.{GoesOn, goes_on_from, spelled_rest}
+use Rattle.formula_parse.proofs.Uniqueness.{goes_on_from, spelled_rest}
 
 -- spaces and one more space
 one_space_more : (gap : List ℕ) → are_spaces gap ≡ true → are_spaces (gap ++ 32 ∷ []) ≡ true

@@ -8,7 +8,6 @@ use Rattle.std.proofs.lemmas.List.Elements.{All-head, All-tail}
 use Rattle.cell_values.specs.declared.names.Name.{Name}
 use Rattle.formula_parse.specs.declared.nodes.Node.{Node}
 use Rattle.formula_parse.specs.declared.nodes.Node.TheVariants as nodes
-use Rattle.formula_parse.specs.declared.operators.Operator.{Operator}
 use Rattle.formula_parse.specs.declared.operators.Operator.TheVariants as operators
 use Rattle.formula_parse.specs.declared.reader.Frame.{Frame}
 use Rattle.formula_parse.specs.declared.reader.OpenChain.{OpenChain}

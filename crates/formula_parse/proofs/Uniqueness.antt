@@ -1,20 +1,17 @@
 -- What is read of a text agrees with every formula that the text is.
-use Rattle.std.proofs.Common.{◌≡◌, ◌⊎◌, inl, inr, ⊎_elim, ℕ, zero, suc, ◌+◌, ◌<◌, ◌≤◌, Bool, true, false, not, ◌||◌, ◌==◌, List, [], ◌∷◌, ◌++◌, length, Option, Some, None, Result, Ok, Err, refl, sym, ap, ◌∙◌, subst, arith}
+use Rattle.std.proofs.Common.{◌≡◌, ℕ, true, List, [], ◌∷◌, ◌++◌, Some, sym, ap, ◌∙◌, subst}
 use Rattle.std.proofs.lemmas.List.{append-nil}
 use Rattle.std.proofs.lemmas.Option.{same_Some}
-use Rattle.formula_parse.specs.declared.faults.ParseFault.{ParseFault}
-use Rattle.formula_parse.specs.declared.faults.ParseFault.TheVariants as faults
 use Rattle.formula_parse.specs.declared.nodes.Node.{Node}
 use Rattle.formula_parse.specs.declared.reader.Reader.{Reader}
 use Rattle.formula_parse.specs.declared.tokens.Token.{Token}
 use Rattle.formula_parse.specs.Faults.{IsUnlimitedFormula}
-use Rattle.formula_parse.specs.Grammar.{IsWritten}
-use Rattle.formula_parse.specs.Reading.{Turn, turn_at, ended, first_reader, judged, at_end}
+use Rattle.formula_parse.specs.Reading.{Turn, ended, first_reader}
 use Rattle.formula_parse.specs.Tokens.{IsSpelled, are_spaces}
 use Rattle.formula_parse.proofs.Machine.{first_turn, ran, ended_behind}
 use Rattle.formula_parse.proofs.MachineLaws.{what_is_written_is_read}
 use Rattle.formula_parse.proofs.Outcomes.{IsStuck}
-use Rattle.formula_parse.proofs.Runs.{turn_of, ran_on, reads_run, spaces_spell_nothing, FirstSpelled, full_is_found, refused_run}
+use Rattle.formula_parse.proofs.Runs.{turn_of, ran_on, reads_run, spaces_spell_nothing, full_is_found, refused_run}
 use Rattle.formula_parse.proofs.TokenReads.{Reads, is_full, spelled_behind}
 
 -- tokens that go on from what was read, where all of them can be run

@@ -1,5 +1,5 @@
 -- Formulas within the limits, and why a text is none.
-use Rattle.std.specs.Prelude.{◌≡◌, ◌⊎◌, ℕ, ◌<◌, ◌≤◌, Bool, true, false, List, [], ◌∷◌, ◌++◌, length, drop, take, All, Any}
+use Rattle.std.specs.Prelude.{◌≡◌, ◌⊎◌, ℕ, ◌<◌, ◌≤◌, Bool, true, false, List, [], ◌∷◌, ◌++◌, length, drop, take}
 use Rattle.std.specs.List.{list_any, count_by}
 use Rattle.std.specs.Str.{is_utf8, chars}
 use Rattle.formula_parse.specs.declared.nodes.Node.{Node}

@@ -1,8 +1,5 @@
 -- The grammar of formulas: which tokens each part of a tree is written with.
-use Rattle.std.specs.Prelude.{◌≡◌, ◌⊎◌, ℕ, zero, suc, ◌+◌, ◌<◌, ◌≤◌, pos, ◌≤ℤ◌, Bool, true, false, List, [], ◌∷◌, ◌++◌, map, length, All, Any, Option}
-use Rattle.std.specs.Str.{chars}
-use Rattle.cell_refs.specs.declared.references.RefText.{RefText}
-use Rattle.cell_refs.specs.Area.{area_of, size_of}
+use Rattle.std.specs.Prelude.{◌≡◌, ◌⊎◌, ℕ, suc, ◌<◌, ◌≤◌, List, [], ◌∷◌, ◌++◌, map, length}
 use Rattle.formula_parse.specs.declared.nodes.Node.{Node}
 use Rattle.formula_parse.specs.declared.nodes.Node.TheFolds.{rec-Node}
 use Rattle.formula_parse.specs.declared.nodes.Node.TheOpen.{Node-F}
@@ -11,7 +8,6 @@ use Rattle.formula_parse.specs.declared.operators.Operator.{Operator}
 use Rattle.formula_parse.specs.declared.operators.Operator.TheVariants as operators
 use Rattle.formula_parse.specs.declared.tokens.Token.{Token}
 use Rattle.formula_parse.specs.declared.tokens.Token.TheVariants as tokens
-use Rattle.formula_parse.specs.Tokens.{IsSpelled}
 
 -- The places of the grammar, from the loosest to the tightest: comparisons 0, concatenations 1, sums 2, products 3, signed operands 4, operands 5. Each operator chains what stands one place tighter.
 abbrev pub place_of : Operator → ℕ

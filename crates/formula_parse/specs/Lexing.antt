@@ -2,7 +2,6 @@
 use Rattle.std.specs.Prelude.{ℕ, ◌+◌, ◌-◌, ◌*◌, min, max, Bool, true, false, not, ◌&&◌, ◌||◌, if◌then◌else◌, ◌==◌, nat_lt, nat_le, List, [], ◌∷◌, length, map, take, drop, take_while, slice_index, Option, Some, None, is_none, option_map, codes}
 use Rattle.std.specs.List.{list_any, find, position_or_len}
 use Rattle.std.specs.Char.{is_ascii_digit, is_ascii_alphabetic, is_ascii_control, to_ascii_uppercase}
-use Rattle.std.specs.Option.{option_map_or}
 use Rattle.std.specs.Str.{bytes_eq}
 use Rattle.cell_refs.specs.Reading.{sheet_at}
 use Rattle.cell_refs.specs.Written.{reference_at, capitals}

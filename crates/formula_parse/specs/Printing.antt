@@ -1,5 +1,5 @@
 -- The canonical text of a tree: `=` and its tokens without spaces.
-use Rattle.std.specs.Prelude.{ℕ, unsigned_abs, Bool, true, false, List, [], ◌∷◌, ◌++◌, replicate, codes, decimal}
+use Rattle.std.specs.Prelude.{ℕ, unsigned_abs, List, [], ◌∷◌, ◌++◌, replicate, codes, decimal}
 use Rattle.std.specs.List.{flat_map}
 use Rattle.cell_refs.specs.Written.{reference_text}
 use Rattle.cell_values.specs.Error.{error_word}

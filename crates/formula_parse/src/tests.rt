@@ -6,6 +6,7 @@ use super::printer::print;
 use cell_refs::Area;
 use std::alloc::{AllocError, Global};
 use std::test::Fail;
+use std::thread::join;
 
 /// The canonical text of the formula that a text is.
 fn printed(alloc: Global, text: &str) -> Result<String, ParseFault> {
@@ -295,5 +296,15 @@ fn sites_are_calls_that_are_not_built_in(rt: HostRuntime) -> Result<(), Fail> {
         let tree = parse(rt.alloc(), text)?;
         assert_eq!(rt; sites(&tree), count, "in {text}");
     }
+    Ok(())
+}
+
+#[test]
+fn a_tree_crosses_threads(rt: HostRuntime) -> Result<(), Fail> {
+    let tree = parse(rt.alloc(), "=1+2+A3")?;
+    let copy = tree.copy()?;
+    let (here, there) = join(&rt, || operands(tree.root()), || operands(copy.root()));
+    assert_eq!(rt; here, 3);
+    assert_eq!(rt; there, 3);
     Ok(())
 }

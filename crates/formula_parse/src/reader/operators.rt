@@ -92,8 +92,8 @@ fn comma(alloc: Global, operand: Node, frames: Stack<Frame>) -> Result<Turn, All
     let last = finished(operand, frame.chains)?;
     match with_argument(frame.opened, last)? {
         Some(opened) => {
-            let frames = with_frame(alloc, opened, frame.minuses, frame.calls, frames)?;
-            Ok(Some((Phase::Signs(0), frames)))
+            let outer = with_frame(alloc, opened, frame.minuses, frame.calls, frames)?;
+            Ok(Some((Phase::Signs(0), outer)))
         }
         None => Ok(None),
     }

@@ -1,7 +1,6 @@
 use Rattle.std.proofs.Common.{Err}
 use Rattle.formula_parse.specs.declared.faults.ParseFault.TheVariants as faults
 use Rattle.formula_parse.proofs.Causes.{fault_cause, cause_fault, syntax_cause, cause_syntax, range_cause, cause_range, number_cause, cause_number}
-use Rattle.formula_parse.proofs.ParseLaws.{ok_clause}
 use Rattle.formula_parse.proofs.laws.each_fault_has_its_cause.Goals as goal
 
 pub returns : goal.returns

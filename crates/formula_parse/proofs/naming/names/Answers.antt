@@ -1,4 +1,4 @@
-use Rattle.std.proofs.Common.{◌≡◌, ◌≤◌, ◌++◌, All, ap, sym, ◌∙◌, subst}
+use Rattle.std.proofs.Common.{◌≤◌, ◌++◌, All, ap, sym, ◌∙◌, subst}
 use Rattle.cell_refs.specs.Area.{IsArea, size_of}
 use Rattle.formula_parse.specs.Tree.{areas_named}
 use Rattle.formula_parse.proofs.NamingLaws.{named_small, named_inside}

@@ -2,6 +2,7 @@ use Rattle.std.proofs.Common.{◌≡◌, ◌==◌, true, false, Ok, arith, inr, 
 use Rattle.std.proofs.lemmas.Result.{err_from_is_err_and}
 use Rattle.formula_parse.specs.Lexing.{passes_at}
 use Rattle.formula_parse.specs.Reading.{read_text}
+use Rattle.formula_parse.proofs.Causes.{read_ok}
 use Rattle.formula_parse.proofs.CodeBytes.{bytes_of_short}
 use Rattle.formula_parse.proofs.CodeLengths.{passes_within}
 use Rattle.formula_parse.proofs.CodeLoop.{begins, begins_not, turn_faults, turn_ends, turn_reads, turns_end}
@@ -35,7 +36,7 @@ pub new-requires-in-Formula : goal.new-requires-in-Formula
 new-requires-in-Formula c =
     let text = c.args.text.now in
     let read : read_text text ≡ Ok c.in-Formula.root = sym (turn_ends text c.loop.counter c.loop.reader c.loop.place c.in_ok-root.field-0 c.in-Formula.root c.loop-test.true c.loop.invariant.reads c.in_ok-root.ensures.value c.in-Formula.is) in
-    (text, ?)
+    (text, read_ok text c.in-Formula.root c.requires read)
 
 pub returns-in-Formula : goal.returns-in-Formula
 returns-in-Formula c =

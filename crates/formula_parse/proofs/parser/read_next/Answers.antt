@@ -1,4 +1,4 @@
-use Rattle.std.proofs.Common.{◌≡◌, ◌<◌, ◌+◌, drop, length, Some, None, inr, length-drop, arith, sym, ◌∙◌}
+use Rattle.std.proofs.Common.{◌≡◌, ◌<◌, ◌+◌, drop, length, Some, inr, length-drop, arith, sym, ◌∙◌}
 use Rattle.formula_parse.specs.Lexing.{token_at}
 use Rattle.formula_parse.proofs.CodeLengths.{token_within}
 use Rattle.formula_parse.proofs.CodeReading.{gap_is, gap_within, no_token, no_turn, too_deep_turn, onward_turn, answered}

@@ -1,4 +1,4 @@
-use Rattle.std.proofs.Common.{rules, ◌≡◌, ◌++◌, ◌∷◌, [], ℕ, List, map, length, take, drop, ◌-◌, OnOk, sym, ap, ◌∙◌, subst}
+use Rattle.std.proofs.Common.{◌≡◌, ◌++◌, ◌∷◌, [], map, length, take, drop, ◌-◌, OnOk, ap, ◌∙◌, subst}
 use Rattle.std.specs.List.{flat_map}
 use Rattle.formula_parse.specs.Printing.{token_text, tokens_of}
 use Rattle.formula_parse.proofs.Printing.{behind_commas, arguments_begin, negation_text, kept_on}

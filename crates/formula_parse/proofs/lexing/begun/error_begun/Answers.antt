@@ -1,4 +1,4 @@
-use Rattle.std.proofs.Common.{◌≡◌, ℕ, ◌+◌, max, map, drop, ap, sym, ◌∙◌, arith}
+use Rattle.std.proofs.Common.{◌+◌, max, map, drop, ap, sym, ◌∙◌, arith}
 use Rattle.cell_refs.specs.Written.{capitals}
 use Rattle.cell_values.specs.declared.errors.ErrorKind.{ErrorKind}
 use Rattle.cell_values.specs.declared.errors.ErrorKind.TheVariants as errors
