@@ -1,11 +1,12 @@
 -- How much is open at the points of a text.
-use Rattle.std.proofs.Common.{◌≡◌, ◌⊎◌, inl, inr, ⊎_elim, ℕ, zero, suc, ◌<◌, Bool, true, false, ◌||◌, pos, List, [], ◌∷◌, ◌++◌, length, replicate, take, drop, Some, option_and_then, Result, refl, sym, ap, ◌∙◌, subst, arith, codes, ltb-true, ltb-false, nat_lt}
+use Rattle.std.proofs.Common.{◌≡◌, ◌⊎◌, inl, inr, ⊎_elim, ℕ, zero, suc, ◌<◌, ◌≤◌, Bool, true, false, ◌||◌, pos, List, [], ◌∷◌, ◌++◌, length, replicate, take, drop, Some, option_and_then, Result, refl, sym, ap, ◌∙◌, subst, arith, codes, ltb-true, ltb-false, nat_lt}
 use Rattle.std.specs.List.{count_by}
 use Rattle.std.proofs.lemmas.Bool.{or_cases}
 use Rattle.std.proofs.lemmas.List.{append-nil, append_assoc, take-append-drop, length-append}
 use Rattle.std.proofs.Math.Seq.{take-append_seam}
 use Rattle.formula_parse.specs.declared.faults.ParseFault.{ParseFault}
 use Rattle.formula_parse.specs.declared.nodes.Node.{Node}
+use Rattle.formula_parse.specs.declared.reader.Frame.{Frame}
 use Rattle.formula_parse.specs.declared.reader.Reader.{Reader}
 use Rattle.formula_parse.specs.declared.tokens.Token.{Token}
 use Rattle.formula_parse.specs.declared.tokens.Token.TheVariants as tokens
@@ -44,6 +45,14 @@ shallow_is_not_over written turn h d over =
     neither : (a b : Bool) → (a || b) ≡ false → (a ≡ false) × (b ≡ false)
     neither true b h = cc
     neither false b h = (refl, h)
+
+-- at most 64 calls are open where nothing is too deep
+pub shallow_calls : (frames : List Frame) → is_too_deep frames ≡ false → calls_open frames ≤ 64
+shallow_calls frames h = ltb-false 64 (calls_open frames) (first_is (nat_lt 64 (calls_open frames)) (nat_lt 129 (length frames)) h)
+  where
+    first_is : (a b : Bool) → (a || b) ≡ false → a ≡ false
+    first_is true b h = cc
+    first_is false b h = refl
 
 -- a formula that begins with some tokens, whose further tokens are spelled behind a space
 pub record Continued (written : List Token) : Type 0 where

@@ -1,6 +1,8 @@
 //! Laws over the definitions, each the contract of a function without a body.
 
-ghost use Rattle.std.specs.Prelude.{◌≡◌, ◌↔◌, ℕ, List, Some, Err};
+ghost use Rattle.std.specs.Prelude.{◌≡◌, ◌≤◌, ◌↔◌, ℕ, List, Some, Err, All};
+ghost use Rattle.cell_refs.specs.Area.{IsArea, size_of};
+ghost use Rattle.formula_parse.specs.Tree.{IsTree, areas_named, site_count};
 ghost use Rattle.formula_parse.specs.declared.faults.ParseFault.TheVariants as faults;
 ghost use Rattle.formula_parse.specs.declared.nodes.Node.{Node};
 ghost use Rattle.std.specs.Str.{is_utf8};
@@ -29,4 +31,11 @@ pub fn each_fault_has_its_cause()
 /// The canonical text of a tree is a formula of that tree.
 pub fn what_is_printed_reads_back()
     ensures { (text : List ℕ) (tree : Node) → IsFormula text tree → IsFormula (printed tree) tree }
+{}
+
+/// What a tree names lies inside the grid, and it has no more sites than a `u16` counts.
+pub fn trees_are_within_limits()
+    ensures small { (tree : Node) (home : ℕ) → IsTree tree → All (λ area. size_of area ≤ 65536) (areas_named tree home) }
+    ensures inside { (tree : Node) (home : ℕ) → IsTree tree → 1 ≤ home → home ≤ 64 → All IsArea (areas_named tree home) }
+    ensures sites { (tree : Node) → IsTree tree → site_count tree ≤ 65535 }
 {}

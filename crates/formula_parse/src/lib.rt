@@ -19,7 +19,7 @@ mod trees;
 pub use faults::ParseFault;
 pub use laws::{
     a_text_has_one_tree, each_fault_has_its_cause, reading_gives_what_is_written,
-    what_is_printed_reads_back,
+    trees_are_within_limits, what_is_printed_reads_back,
 };
 pub use naming::{names, sites};
 pub use nodes::Node;

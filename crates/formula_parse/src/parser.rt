@@ -1,8 +1,8 @@
-ghost use Rattle.std.specs.Prelude.{◌≡◌, ◌⊎◌, ◌↔◌, ◌<◌, ◌≤◌, ◌+◌, ℕ, [], length, drop, if◌then◌else◌, Some, IfOk};
+ghost use Rattle.std.specs.Prelude.{◌≡◌, ◌⊎◌, ◌↔◌, ◌<◌, ◌≤◌, ◌+◌, ℕ, [], length, drop, if◌then◌else◌, Some, IfOk, false};
 ghost use Rattle.formula_parse.specs.Lexing.{begun_len};
 ghost use Rattle.std.specs.Str.{chars};
 ghost use Rattle.formula_parse.specs.Faults.{IsFormula, IsShort, IsTooDeep, IsSyntaxFault, IsRangeFault, IsNumberFault};
-ghost use Rattle.formula_parse.specs.Reading.{formula_of, is_too_long, parsed, read_text, read_from, read_next, at_end, ended, gap_len, first_reader, begun_behind, minuses_in, Answer};
+ghost use Rattle.formula_parse.specs.Reading.{formula_of, is_too_long, parsed, read_text, read_from, read_next, at_end, ended, gap_len, first_reader, begun_behind, minuses_in, is_too_deep, Answer};
 ghost use Rattle.formula_parse.specs.Turns.{told, IsBefore, IsFormulaRead};
 
 use super::faults::ParseFault;
@@ -77,6 +77,7 @@ fn read_next(alloc: Global, text: &str, reader: Reader, place: usize) -> Result<
     requires short { length text.now ≤ 32768 }
     requires within { place ≤ length text.now }
     requires few { minuses_in reader.phase ≤ place }
+    requires shallow { is_too_deep reader.frames ≡ false }
     ensures value { (result ≡ Err ParseFault.Memory) ⊎ (told text.now result ≡ read_next reader place (drop place text.now)) }
     ensures on { IfOk result (IsBefore (length text.now)) }
 {

@@ -4,7 +4,7 @@ mod chains;
 mod operands;
 mod operators;
 
-ghost use Rattle.std.specs.Prelude.{◌≡◌, ◌+◌, ◌<◌, ◌≤◌, ◌^◌, Some, IfOk};
+ghost use Rattle.std.specs.Prelude.{◌≡◌, ◌+◌, ◌<◌, ◌≤◌, ◌^◌, Some, IfOk, false};
 ghost use Rattle.formula_parse.specs.Reading.{stepped, turn_at, first_reader, is_too_deep, ended, awaits_operand, minuses_in, calls_open, is_wide_area, is_large_number};
 
 use super::nodes::Node;
@@ -102,7 +102,8 @@ impl Reader {
     /// The reader behind a token; None where no formula goes on with it.
     #[tactic(auto, unfolding(crate::specs::Reading::stepped))]
     pub(crate) fn with(self, alloc: Global, token: Token) -> Result<Option<Reader>, AllocError>
-        requires { minuses_in self.phase + 1 < 2 ^ 32 }
+        requires few { minuses_in self.phase + 1 < 2 ^ 32 }
+        requires shallow { is_too_deep self.frames ≡ false }
         ensures { IfOk result (λ next. next ≡ stepped self token) }
     {
         let has_wide_area = self.has_wide_area || is_wide_area(&token);
@@ -142,7 +143,8 @@ impl Reader {
 
 /// What a token makes of the phase and the frames.
 fn turn(alloc: Global, phase: Phase, frames: Stack<Frame>, token: Token) -> Result<Turn, AllocError>
-    requires { minuses_in phase + 1 < 2 ^ 32 }
+    requires few { minuses_in phase + 1 < 2 ^ 32 }
+    requires shallow { is_too_deep frames ≡ false }
     ensures { IfOk result (λ turn. turn ≡ turn_at phase frames token) }
 {
     match phase {

@@ -1,5 +1,5 @@
-ghost use Rattle.std.specs.Prelude.{◌≡◌, ◌+◌, ◌<◌, ◌^◌, IfOk};
-ghost use Rattle.formula_parse.specs.Reading.{operand_turn, empty_call, after_operand, operand_of, with_frame, calls_open};
+ghost use Rattle.std.specs.Prelude.{◌≡◌, ◌+◌, ◌<◌, ◌^◌, false, IfOk};
+ghost use Rattle.formula_parse.specs.Reading.{operand_turn, empty_call, after_operand, operand_of, with_frame, calls_open, is_too_deep};
 
 use super::super::nodes::Node;
 use super::super::operators::Operator;
@@ -17,7 +17,8 @@ pub(super) fn operand(
     frames: Stack<Frame>,
     token: Token,
 ) -> Result<Turn, AllocError>
-    requires { minuses + 1 < 2 ^ 32 }
+    requires few { minuses + 1 < 2 ^ 32 }
+    requires shallow { is_too_deep frames ≡ false }
     ensures { IfOk result (λ turn. turn ≡ operand_turn minuses frames token) }
 {
     match token {
@@ -29,9 +30,7 @@ pub(super) fn operand(
             Ok(Some((Phase::Signs(0), frames)))
         }
         Token::Call(name) => {
-            let Some(calls) = calls_open(&frames).checked_add(1) else {
-                return Err(AllocError);
-            };
+            let calls = calls_open(&frames) + 1;
             let arguments = Items::new(alloc);
             let opened = Opened::Call { name, arguments };
             let frames = with_frame(alloc, opened, minuses, calls, frames)?;

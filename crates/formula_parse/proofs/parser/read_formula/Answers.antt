@@ -1,4 +1,4 @@
-use Rattle.std.proofs.Common.{◌≡◌, ◌==◌, true, false, Ok, arith, inr, ap, sym, subst, ◌∙◌}
+use Rattle.std.proofs.Common.{◌≡◌, ◌==◌, true, false, Ok, arith, inr, refl, ap, sym, subst, ◌∙◌}
 use Rattle.std.proofs.lemmas.Result.{err_from_is_err_and}
 use Rattle.formula_parse.specs.Lexing.{passes_at}
 use Rattle.formula_parse.specs.Reading.{read_text}
@@ -21,6 +21,7 @@ loop-init c =
     record {
       within = passes_within (λ b. b == 61) text 0 begun;
       few = rw c.in_ok-reader.ensures (omega arith);
+      shallow = rw c.in_ok-reader.ensures refl;
       reads = begins text c.in_ok-reader.reader begun c.in_ok-reader.ensures;
     }
 
@@ -48,6 +49,7 @@ loop-preserved c =
     record {
       within = before.0;
       few = before.1;
+      shallow = before.2;
       reads = turn_reads c.args.text.now c.loop.counter c.loop.reader c.in-Token.next c.loop.place c.in-Token.behind c.in_ok-root.field-0 c.loop-test.true c.loop.invariant.reads c.in_ok-root.ensures.value c.in-Token.is;
     }
 

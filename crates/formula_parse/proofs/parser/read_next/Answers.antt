@@ -54,4 +54,4 @@ returns-in-Some-2-2-clause-on c =
     let found : token_at (drop (c.args.place + c.gap_len.result) text) ≡ Some (c.in-Some.token, c.in-Some.len) = answered _ _ c.in_ok-token.ensures ∙ c.in-Some.is in
     let fits = token_within (drop (c.args.place + c.gap_len.result) text) c.in-Some.token c.in-Some.len found in
     let more = one_more c.args.reader c.in-Some-2.next c.in-Some.token (sym (sym c.in-Some-2.is ∙ c.in_ok-with.ensures)) in
-    (omega (arith, fits.1, length-drop (c.args.place + c.gap_len.result) text), omega (arith, fits.0, more, c.requires.few))
+    (omega (arith, fits.1, length-drop (c.args.place + c.gap_len.result) text), omega (arith, fits.0, more, c.requires.few), sym c.is_too_deep.ensures ∙ c.if-is_too_deep.false)
