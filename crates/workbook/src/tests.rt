@@ -3,8 +3,8 @@ use super::contents::Content;
 use super::replies::SheetCells;
 use cell_refs::Cell;
 use cell_values::Value;
-use sum_formulas::parse;
 use std::test::Fail;
+use sum_formulas::parse;
 
 fn cell(sheet: u8, row: u32, col: u16) -> Cell {
     Cell { sheet, row, col }
