@@ -1,0 +1,6 @@
+//! Add-ins.
+#![tactic(auto)]
+
+mod registrations;
+
+pub use registrations::{Kind, Registration};
