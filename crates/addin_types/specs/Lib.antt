@@ -1,1 +1,2 @@
--- definitions
+-- What the contracts of this crate cite.
+pub mod Samples

@@ -160,7 +160,7 @@ impl Book {
     fn has_formula(&self, cell: Cell) -> bool
         ensures { result ≡ is_formula self.now.contents cell }
     {
-        match self.contents.get(&cell) {
+        match self.get(cell) {
             Some(content) => content.is_formula(),
             None => false,
         }
