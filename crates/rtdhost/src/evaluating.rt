@@ -13,9 +13,9 @@ ghost use Rattle.rtdhost.specs.Inputs.{known_content, known_input, known_formula
 
 use cell_refs::Cell;
 use cell_values::{Memory, Value, add};
-use sum_formulas::Term;
 use std::alloc::Global;
 use std::collections::{BTreeMap, BTreeSet};
+use sum_formulas::Term;
 use workbook::{Book, Content};
 
 /// What a recalculation reads: the book, its stale cells, and what the sheet showed before.

@@ -40,5 +40,12 @@ fn at_most_500000_cells_have_content(rt: HostRuntime) -> Result<(), Fail> {
 #[test]
 fn at_most_100000_cells_have_a_formula(rt: HostRuntime) -> Result<(), Fail> {
     let more = "set B1 =1\nset A1 =2\nset B1 1\n";
-    fills(&rt, rt.alloc(), 100_000, "=1", more, "full formulas\nok\nok\n")
+    fills(
+        &rt,
+        rt.alloc(),
+        100_000,
+        "=1",
+        more,
+        "full formulas\nok\nok\n",
+    )
 }

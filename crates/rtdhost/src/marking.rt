@@ -10,9 +10,9 @@ ghost use Rattle.rtdhost.specs.Marking.{is_hot, is_touched, AreStale, KeepsMarks
 
 use cell_refs::Cell;
 use cell_values::Memory;
-use sum_formulas::Term;
 use std::alloc::Global;
 use std::collections::BTreeSet;
+use sum_formulas::Term;
 use workbook::{Book, Content};
 
 /// Whether a cell is changed or marked.

@@ -68,7 +68,13 @@ fn only_what_a_changed_cell_reaches_is_stale(rt: HostRuntime) -> Result<(), Fail
 }
 
 /// Sets a content, recalculates, and compares what the cell shows.
-fn shows(rt: &impl Abort, alloc: Global, content: &str, stale: u32, word: &str) -> Result<(), Fail> {
+fn shows(
+    rt: &impl Abort,
+    alloc: Global,
+    content: &str,
+    stale: u32,
+    word: &str,
+) -> Result<(), Fail> {
     let script = format!(in alloc; "set A1 {content}\ncalc\nprint\n")?;
     let want = format!(in alloc; "ok\nbegun 1\ndone 1 cells {stale}\nA1={word}\nend\n")?;
     plays(rt, alloc, script.as_str(), 1000, want.as_str())
@@ -127,20 +133,26 @@ fn sums_take_constants_of_every_kind(rt: HostRuntime) -> Result<(), Fail> {
         ("007", "8"),
     ];
     for (content, word) in table {
-        let script = format!(in rt.alloc(); "set B1 {content}\nset A1 =B1+1\ncalc\nset B1 =1\nprint\n")?;
+        let script = format!(in rt.alloc();
+            "set B1 {content}\nset A1 =B1+1\ncalc\nset B1 =1\nprint\n"
+        )?;
         let bytes = Vec::from_slice(rt.alloc(), script.as_bytes())?;
         let want = format!(in rt.alloc(); "ok\nok\nbegun 1\ndone 1 cells 1\nok\nA1={word}\n")?;
         let mut src = MemorySource::new(bytes, 1000, Vec::new(rt.alloc()));
         let mut out = MemorySink::new(rt.alloc(), 1000, Vec::new(rt.alloc()));
         assert_eq!(rt; run(rt.alloc(), &mut src, &mut out)?, Status::Ok);
-        assert!(rt; out.written().starts_with(want.as_bytes()), "at {content:?}");
+        assert!(rt;
+            out.written().starts_with(want.as_bytes()),
+            "at {content:?}"
+        );
     }
     Ok(())
 }
 
 #[test]
 fn cells_on_other_sheets(rt: HostRuntime) -> Result<(), Fail> {
-    let script = "set sheet2!$A$1 1\nset Sheet2!B1 =A1+2\nset A1 'x\nset Sheet65!A1 1\nset Sheet2! 1\ncalc\nprint\n";
+    let script =
+        "set sheet2!$A$1 1\nset Sheet2!B1 =A1+2\nset A1 'x\nset Sheet65!A1 1\nset Sheet2! 1\ncalc\nprint\n";
     let want = "ok\nok\nok\nbad later\nbad later\nbegun 1\ndone 1 cells 1\n\
         A1=\"x\"\nSheet2!A1=1\nSheet2!B1=3\nend\n";
     plays(&rt, rt.alloc(), script, 1000, want)
@@ -181,7 +193,11 @@ fn a_text_has_at_most_32767_characters(rt: HostRuntime) -> Result<(), Fail> {
         let mut src = MemorySource::new(bytes, 1000, Vec::new(rt.alloc()));
         let mut out = MemorySink::new(rt.alloc(), 1000, Vec::new(rt.alloc()));
         assert_eq!(rt; run(rt.alloc(), &mut src, &mut out)?, Status::Ok);
-        assert_eq!(rt; out.written(), want.as_bytes(), "of {count} behind {front:?}");
+        assert_eq!(rt;
+            out.written(),
+            want.as_bytes(),
+            "of {count} behind {front:?}"
+        );
     }
     Ok(())
 }

@@ -8,9 +8,9 @@ ghost use Rattle.rtdhost.specs.Script.{cell_of, content_of, set_said, word_said,
 use super::constants::{read_constant, read_text};
 use super::lines::MAX_LINE;
 use cell_refs::{Cell, read_ref};
-use sum_formulas::{ParseFault, parse};
 use std::alloc::Global;
 use std::str;
+use sum_formulas::{ParseFault, parse};
 use workbook::{BeginKind, Command, Content, Form};
 
 /// What a line says.

@@ -76,7 +76,7 @@ pub next-later : {Z : Type 0} (es rest : List (String Z × (List ℕ × Registra
 next-later es rest k v after target past is known tested fails =
     let each = subst AreNamed is known.1 in (
       sym (ap (λ b. cond b (Some (string_bytes k)) (next_name (named rest) after)) (sym tested ∙ fails))
-      ∙ sym (ap (λ fs. next_name (named fs) after) is) ∙ known.0,
+          ∙ sym (ap (λ fs. next_name (named fs) after) is) ∙ known.0,
       each.1,
     )
 

@@ -4,8 +4,8 @@ use super::replies::SheetCells;
 use addin_types::{Kind, Registration};
 use cell_refs::Cell;
 use cell_values::{ErrorKind, Name, Text, Value};
-use sum_formulas::parse;
 use std::test::Fail;
+use sum_formulas::parse;
 
 fn cell(sheet: u8, row: u32, col: u16) -> Cell {
     Cell { sheet, row, col }
@@ -100,7 +100,10 @@ fn a_cleared_cell_has_no_content(rt: HostRuntime) -> Result<(), Fail> {
     let (first, second) = (cell(1, 1, 1), cell(1, 2, 1));
     let mut book = Book::new(rt.alloc());
     assert!(rt; book.clear(first).is_none());
-    assert!(rt; book.set(first, Content::Formula(parse(rt.alloc(), "=A2+3")?)).is_ok());
+    assert!(rt;
+        book.set(first, Content::Formula(parse(rt.alloc(), "=A2+3")?))
+            .is_ok()
+    );
     assert!(rt; book.set(second, Content::Num(2)).is_ok());
     assert_eq!(rt; terms_of(book.clear(first).as_ref()), Some(2));
     assert!(rt; book.get(first).is_none());
@@ -133,7 +136,10 @@ fn a_refusal_gives_the_content_back(rt: HostRuntime) -> Result<(), Fail> {
         _ => panic!(rt; "one cell too many was taken"),
     }
     assert!(rt; book.get(cell(1, 1, 2)).is_none());
-    assert_eq!(rt; (book.cells(), book.formulas()), (CELL_LIMIT, FORMULA_LIMIT));
+    assert_eq!(rt;
+        (book.cells(), book.formulas()),
+        (CELL_LIMIT, FORMULA_LIMIT)
+    );
     Ok(())
 }
 
@@ -164,7 +170,10 @@ fn functions_go_by_the_bytes_of_their_names(rt: HostRuntime) -> Result<(), Fail>
         last = Some(name);
     }
     assert_eq!(rt; book.next_name(last), None);
-    assert_eq!(rt; book.next_name(Some("A")).map(|next| next.as_str()), Some("DOUBLE"));
+    assert_eq!(rt;
+        book.next_name(Some("A")).map(|next| next.as_str()),
+        Some("DOUBLE")
+    );
     Ok(())
 }
 
