@@ -3,7 +3,7 @@ ghost use Rattle.std.specs.Option.{option_map};
 ghost use Rattle.workbook.specs.Book.{formula_weight};
 
 use super::contents::Content;
-use super::functions::Functions;
+use super::registry::Functions;
 use addin_types::Registration;
 use cell_refs::Cell;
 use cell_values::{Memory, Name};

@@ -4,8 +4,8 @@
 mod books;
 mod commands;
 mod contents;
-mod functions;
 mod laws;
+mod registry;
 mod replies;
 #[cfg(test)]
 mod tests;

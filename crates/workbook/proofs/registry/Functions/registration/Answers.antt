@@ -1,7 +1,7 @@
 use Rattle.std.proofs.Common.{ap, sym, option_map, ◌∙◌}
 use Rattle.workbook.specs.Functions.{registration_of, same_name}
 use Rattle.workbook.proofs.FunctionLaws.{lookup-named}
-use Rattle.workbook.proofs.functions.Functions.registration.Goals as goal
+use Rattle.workbook.proofs.registry.Functions.registration.Goals as goal
 
 pub returns-in-Some-clause-found : goal.returns-in-Some-clause-found
 returns-in-Some-clause-found c =

@@ -1,7 +1,7 @@
 use Rattle.std.proofs.Common.{◌≡◌, ap, rules, sym, subst, ◌∙◌, option_copied}
 use Rattle.workbook.specs.Functions.{AreNamed, is_past, named, next_name}
 use Rattle.workbook.proofs.FunctionLaws.{next-here, next-later, next-none}
-use Rattle.workbook.proofs.functions.Functions.next_name.Goals as goal
+use Rattle.workbook.proofs.registry.Functions.next_name.Goals as goal
 
 pub loop-key-init : goal.loop-key-init
 loop-key-init c =

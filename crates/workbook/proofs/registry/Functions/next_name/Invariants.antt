@@ -1,6 +1,6 @@
 use Rattle.std.proofs.Common.{◌≡◌, option_copied}
 use Rattle.workbook.specs.Functions.{AreNamed, named, next_name}
-use Rattle.workbook.proofs.functions.Functions.next_name.Given as goal
+use Rattle.workbook.proofs.registry.Functions.next_name.Given as goal
 
 -- the name that is sought is the least among those that are left
 abbrev pub invariant-loop-key : goal.invariant-loop-key
