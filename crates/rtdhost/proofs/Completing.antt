@@ -16,7 +16,7 @@ use Rattle.cell_refs.specs.Cell.{cell_cmp, same_cell}
 use Rattle.cell_refs.proofs.CellOrder.{exact_cells, cells_total}
 use Rattle.cell_values.specs.declared.values.Value.{Value}
 use Rattle.workbook.specs.declared.contents.Content.{Content}
-use Rattle.workbook.specs.Book.{IsInOrder, content_at, has_formula, is_formula, formula_cells, formula_count}
+use Rattle.workbook.specs.Book.{IsInOrder, content_at, has_formula, is_formula, formula_cells, formula_count, exceeds_cells, exceeds_formulas}
 use Rattle.workbook.specs.Meaning.{meaning, shown, sheet_of}
 use Rattle.workbook.specs.Stale.{is_among, is_stale, reaches, stale_count}
 use Rattle.workbook.proofs.Cells.{same_cell_is, same_cells}
@@ -25,7 +25,9 @@ use Rattle.workbook.proofs.Meanings.{meaning-kept_clean}
 use Rattle.workbook.proofs.Reaching.{reaches-among}
 use Rattle.workbook.proofs.Steps.{formula_cells-has}
 use Rattle.workbook.specs.declared.commands.Command.{Command}
-use Rattle.workbook.specs.State.{State, reply_to, state_after, reply_at_rest, reply_in_round, after_at_rest, after_in_round}
+use Rattle.workbook.specs.declared.commands.Command.TheVariants as commands
+use Rattle.workbook.specs.declared.replies.Reply.TheVariants as replies
+use Rattle.workbook.specs.State.{State, reply_to, state_after, reply_at_rest, reply_in_round, after_at_rest, after_in_round, reply_to_set}
 use Rattle.workbook.specs.Book.{SetsContent, named_cells}
 use Rattle.workbook.proofs.Walking.{any_alike}
 use Rattle.workbook.proofs.Reaching.{or_false}
@@ -165,6 +167,25 @@ round_reply s command h = ap (λ b. cond b (reply_in_round s command) (reply_at_
 
 pub round_after_it : (s : State) (command : Command) → s.running ≡ true → state_after s command ≡ after_in_round s command
 round_after_it s command h = ap (λ b. cond b (after_in_round s command) (after_at_rest s command)) h
+
+-- a content for which there is room is taken
+room_reply : (a b : Bool) → a ≡ false → b ≡ false → replies.Ok ≡ cond a replies.CellLimit (cond b replies.FormulaLimit replies.Ok)
+room_reply true b e f = cc
+room_reply false true e f = cc
+room_reply false false e f = refl
+
+room_after : (a b : Bool) (s t : State) → a ≡ false → b ≡ false → cond (a || b) s t ≡ t
+room_after true b s t e f = cc
+room_after false true s t e f = cc
+room_after false false s t e f = refl
+
+pub set_replied : (book : List (Cell × Content)) (cell : Cell) (content : Content) → exceeds_cells book cell ≡ false → exceeds_formulas book cell content ≡ false
+    → replies.Ok ≡ reply_to_set book cell content
+set_replied book cell content e f = room_reply (exceeds_cells book cell) (exceeds_formulas book cell content) e f
+
+pub set_taken : (s : State) (cell : Cell) (content : Content) → exceeds_cells s.book cell ≡ false → exceeds_formulas s.book cell content ≡ false
+    → after_at_rest s (commands.Set cell content) ≡ record s { book = insert_entry cell_cmp s.book cell content; changed = cell ∷ s.changed }
+set_taken s cell content e f = room_after (exceeds_cells s.book cell) (exceeds_formulas s.book cell content) s _ e f
 
 or_is : (b c : Bool) → cond b true c ≡ (b || c)
 or_is true c = refl

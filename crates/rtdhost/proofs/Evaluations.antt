@@ -9,7 +9,7 @@ use Rattle.cell_refs.specs.declared.grid.Cell.{Cell}
 use Rattle.cell_refs.specs.Cell.{same_cell}
 use Rattle.cell_refs.specs.RefText.{cell_at}
 use Rattle.cell_values.specs.declared.values.Value.{Value}
-use Rattle.cell_values.specs.declared.values.Value.TheVariants.{Blank, Num as Number'}
+use Rattle.cell_values.specs.declared.values.Value.TheVariants.{Blank, Num as Number', Text as Text', Bool as Bool', Error as Error'}
 use Rattle.cell_values.specs.Value.{add_of, final_of}
 use Rattle.sum_formulas.specs.declared.trees.Term.{Term}
 use Rattle.sum_formulas.specs.declared.trees.Term.TheVariants.{Number, Reference}
@@ -96,6 +96,9 @@ value_constant book (suc n) c o is constant = ap (λ x. content_value x c.sheet 
     settled : (o : Option Content) → has_formula o ≡ false → content_value o c.sheet (value_within book n) ≡ content_value o c.sheet (λ _. Blank)
     settled None h = refl
     settled (Some (contents.Num m)) h = refl
+    settled (Some (contents.Text t)) h = refl
+    settled (Some (contents.Bool b)) h = refl
+    settled (Some (contents.Error e)) h = refl
     settled (Some (contents.Formula tree)) h = cc
 
 -- what is shown as a value is meant so
@@ -127,6 +130,15 @@ module _ (book : List (Cell × Content)) (ordered : IsInOrder book) (stale : Lis
   known_cases finished meant d v (Some (contents.Num n)) is h =
       let same : Number' n ≡ v = cc in
       (not_circular book (formula_count book) d (ap has_formula is), sym same ∙ sym (value_constant book (formula_count book) d (Some (contents.Num n)) is refl))
+  known_cases finished meant d v (Some (contents.Text t)) is h =
+      let same : Text' t ≡ v = cc in
+      (not_circular book (formula_count book) d (ap has_formula is), sym same ∙ sym (value_constant book (formula_count book) d (Some (contents.Text t)) is refl))
+  known_cases finished meant d v (Some (contents.Bool b)) is h =
+      let same : Bool' b ≡ v = cc in
+      (not_circular book (formula_count book) d (ap has_formula is), sym same ∙ sym (value_constant book (formula_count book) d (Some (contents.Bool b)) is refl))
+  known_cases finished meant d v (Some (contents.Error e)) is h =
+      let same : Error' e ≡ v = cc in
+      (not_circular book (formula_count book) d (ap has_formula is), sym same ∙ sym (value_constant book (formula_count book) d (Some (contents.Error e)) is refl))
   known_cases finished meant d v (Some (contents.Formula tree)) is h = formula_meant finished meant d v (ap has_formula is) h
 
   -- what is known of a cell is meant
@@ -144,6 +156,9 @@ module _ (book : List (Cell × Content)) (ordered : IsInOrder book) (stale : Lis
       → content_if_known (known_input book stale sheet finished) c.sheet o ≡ Some v → (is_circular book c ≡ false) × (v ≡ value_of book c)
   ready_cases finished meant c v None is h = cc
   ready_cases finished meant c v (Some (contents.Num n)) is h = cc
+  ready_cases finished meant c v (Some (contents.Text t)) is h = cc
+  ready_cases finished meant c v (Some (contents.Bool b)) is h = cc
+  ready_cases finished meant c v (Some (contents.Error e)) is h = cc
   ready_cases finished meant c v (Some (contents.Formula tree)) is h =
       elim (list_all (λ d. is_some (known_input book stale sheet finished d)) (precedents tree c.sheet)) as (λ b.
       list_all (λ d. is_some (known_input book stale sheet finished d)) (precedents tree c.sheet) ≡ b
@@ -195,6 +210,9 @@ module _ (book : List (Cell × Content)) (ordered : IsInOrder book) (stale : Lis
       → (is_among stale d ≡ true → is_some (lookup (same_cell d) finished) ≡ true) → walks_on book n d ≡ false → is_some (known_content o (known_formula stale sheet finished d)) ≡ true
   known_when_cases n finished d None is done straight = refl
   known_when_cases n finished d (Some (contents.Num m)) is done straight = refl
+  known_when_cases n finished d (Some (contents.Text t)) is done straight = refl
+  known_when_cases n finished d (Some (contents.Bool b)) is done straight = refl
+  known_when_cases n finished d (Some (contents.Error e)) is done straight = refl
   known_when_cases n finished d (Some (contents.Formula tree)) is done straight =
       elim (is_among stale d) as (λ b. is_among stale d ≡ b → is_some (cond b (lookup (same_cell d) finished) (option_and_then (λ w. w) (lookup (same_cell d) sheet))) ≡ true) [
         | true ↦ λ e. done e
@@ -212,6 +230,9 @@ module _ (book : List (Cell × Content)) (ordered : IsInOrder book) (stale : Lis
       → not (is_some (known_content o (known_formula stale sheet finished d))) ≡ true → walks_on book n d ≡ true
   known_or_walks_cases n finished d None is left h = cc
   known_or_walks_cases n finished d (Some (contents.Num m)) is left h = cc
+  known_or_walks_cases n finished d (Some (contents.Text t)) is left h = cc
+  known_or_walks_cases n finished d (Some (contents.Bool b)) is left h = cc
+  known_or_walks_cases n finished d (Some (contents.Error e)) is left h = cc
   known_or_walks_cases n finished d (Some (contents.Formula tree)) is left h =
       elim (is_among stale d) as (λ b. is_among stale d ≡ b → not (is_some (cond b (lookup (same_cell d) finished) (option_and_then (λ w. w) (lookup (same_cell d) sheet)))) ≡ true → walks_on book n d ≡ true) [
         | true ↦ λ e f. left e (unnot _ f)
@@ -238,6 +259,9 @@ module _ (book : List (Cell × Content)) (ordered : IsInOrder book) (stale : Lis
         → is_some (content_if_known (known_input book stale sheet finished) c.sheet o) ≡ list_all (λ d. is_some (known_input book stale sheet finished d)) (named_by o c.sheet)
     ready_formula finished c None is h = cc
     ready_formula finished c (Some (contents.Num n)) is h = cc
+    ready_formula finished c (Some (contents.Text t)) is h = cc
+    ready_formula finished c (Some (contents.Bool b)) is h = cc
+    ready_formula finished c (Some (contents.Error e)) is h = cc
     ready_formula finished c (Some (contents.Formula tree)) is h = some_if _ _
 
     -- a stale cell is ready exactly where all that it names is known
@@ -316,6 +340,9 @@ known_more : (book : List (Cell × Content)) (stale : List Cell) (sheet : List (
     → is_some (known_content o (known_formula stale sheet old d)) ≡ true → is_some (known_content o (known_formula stale sheet new d)) ≡ true
 known_more book stale sheet old new keeps d None h = refl
 known_more book stale sheet old new keeps d (Some (contents.Num n)) h = refl
+known_more book stale sheet old new keeps d (Some (contents.Text t)) h = refl
+known_more book stale sheet old new keeps d (Some (contents.Bool b)) h = refl
+known_more book stale sheet old new keeps d (Some (contents.Error e)) h = refl
 known_more book stale sheet old new keeps d (Some (contents.Formula tree)) h =
     elim (is_among stale d) as (λ b. is_some (cond b (lookup (same_cell d) old) (option_and_then (λ w. w) (lookup (same_cell d) sheet))) ≡ true
     → is_some (cond b (lookup (same_cell d) new) (option_and_then (λ w. w) (lookup (same_cell d) sheet))) ≡ true) [
@@ -327,6 +354,9 @@ ready_more : (book : List (Cell × Content)) (stale : List Cell) (sheet : List (
     → is_some (content_if_known (known_input book stale sheet old) c.sheet o) ≡ true → is_some (content_if_known (known_input book stale sheet new) c.sheet o) ≡ true
 ready_more book stale sheet old new keeps c None h = h
 ready_more book stale sheet old new keeps c (Some (contents.Num n)) h = h
+ready_more book stale sheet old new keeps c (Some (contents.Text t)) h = h
+ready_more book stale sheet old new keeps c (Some (contents.Bool b)) h = h
+ready_more book stale sheet old new keeps c (Some (contents.Error e)) h = h
 ready_more book stale sheet old new keeps c (Some (contents.Formula tree)) h =
     is_if _ _ ∙ all_leads _ _ (λ d. known_more book stale sheet old new keeps d (content_at book d)) (precedents tree c.sheet) (sym (is_if _ _) ∙ h)
   where

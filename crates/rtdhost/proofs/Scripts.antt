@@ -1,5 +1,7 @@
 -- What lines say.
-use Rattle.std.proofs.Common.{◌≡◌, ◌≢◌, ℕ, ◌≤◌, ◌⊎◌, inl, inr, Bool, true, false, cond, List, length, Option, Some, None, Result, Err, IfOk, eqb, ltb, refl, ap, sym, subst, ◌∙◌}
+use Rattle.std.proofs.Common.{◌≡◌, ◌≢◌, ℕ, ◌≤◌, ◌<◌, ◌⊎◌, inl, inr, Bool, true, false, cond, List, [], ◌∷◌, length, Option, Some, None, Result, Err, IfOk, eqb, ltb, refl, ap, sym, subst, ◌∙◌, arith}
+use Rattle.std.specs.Char.{is_ascii_digit}
+use Rattle.std.specs.List.{list_all}
 use Rattle.std.specs.Result.{result_ok}
 use Rattle.std.specs.Str.{IsUtf8}
 use Rattle.std.specs.Str.Lossy.{utf8_valid_len}
@@ -15,7 +17,7 @@ use Rattle.rtdhost.specs.declared.script.Parsed.{Parsed}
 use Rattle.rtdhost.specs.declared.script.Parsed.TheVariants.{Empty}
 use Rattle.rtdhost.specs.declared.script.BadLine.{BadLine}
 use Rattle.workbook.specs.declared.contents.Content.{Content}
-use Rattle.rtdhost.specs.Script.{words_said, line_said}
+use Rattle.rtdhost.specs.Script.{are_digits, words_said, line_said}
 
 at_most : (b : Bool) (o : Option Parsed) → b ≡ false → cond b None o ≡ o
 at_most true o h = cc
@@ -45,3 +47,8 @@ no_formula text r fault is known (inr exact) = sym (parsed_formula text) ∙ ap 
 
 pub same_fault : (a b : BadLine) → ◌≡◌ {A = Result Content BadLine} (Err a) (Err b) → a ≡ b
 same_fault a b e = cc
+
+-- of some bytes that are all digits
+pub some_digits : (bs : List ℕ) → 0 < length bs → list_all is_ascii_digit bs ≡ are_digits bs
+some_digits [] h = absurd (omega (arith, h))
+some_digits (b ∷ bs) h = refl

@@ -1,5 +1,5 @@
 -- What a sheet shows after one more cell is shown, and when it is the sheet of the book.
-use Rattle.std.proofs.Common.{◌≡◌, ℕ, ◌+◌, ◌<◌, inl, inr, true, false, cond, List, length, take, Option, Some, None, refl, ap, sym, subst, ◌∙◌}
+use Rattle.std.proofs.Common.{◌≡◌, ℕ, ◌+◌, ◌<◌, inl, inr, true, false, cond, ◌||◌, List, ◌∷◌, length, take, Option, Some, None, refl, ap, sym, subst, ◌∙◌}
 use Rattle.std.specs.List.{slice_index_or}
 use Rattle.std.specs.Map.{lookup}
 use Rattle.std.specs.Option.{option_map}
@@ -8,7 +8,7 @@ use Rattle.std.proofs.lemmas.List.Folds.{list_any_more}
 use Rattle.cell_refs.specs.declared.grid.Cell.{Cell}
 use Rattle.cell_refs.specs.Cell.{same_cell}
 use Rattle.cell_values.specs.declared.values.Value.{Value}
-use Rattle.cell_values.specs.declared.values.Value.TheVariants.{Num as Number'}
+use Rattle.cell_values.specs.declared.values.Value.TheVariants.{Num as Number', Text as Text', Bool as Bool', Error as Error'}
 use Rattle.workbook.specs.declared.contents.Content.{Content}
 use Rattle.workbook.specs.declared.contents.Content.TheVariants as contents
 use Rattle.workbook.specs.Book.{content_at, has_formula, is_formula, formula_count}
@@ -54,12 +54,42 @@ constant-right book cell (contents.Num n) v found is =
     let straight = not_circular book (formula_count book) cell (ap has_formula found) in
     sym (ap (option_map (λ _. shown (meaning book cell))) found
     ∙ ap Some (ap shown (shows_value book cell straight) ∙ ap Some (value_constant book (formula_count book) cell (Some (contents.Num n)) found refl ∙ same)))
+constant-right book cell (contents.Text t) v found is =
+    let same : Text' t ≡ v = cc in
+    let straight = not_circular book (formula_count book) cell (ap has_formula found) in
+    sym (ap (option_map (λ _. shown (meaning book cell))) found
+    ∙ ap Some (ap shown (shows_value book cell straight) ∙ ap Some (value_constant book (formula_count book) cell (Some (contents.Text t)) found refl ∙ same)))
+constant-right book cell (contents.Bool b) v found is =
+    let same : Bool' b ≡ v = cc in
+    let straight = not_circular book (formula_count book) cell (ap has_formula found) in
+    sym (ap (option_map (λ _. shown (meaning book cell))) found
+    ∙ ap Some (ap shown (shows_value book cell straight) ∙ ap Some (value_constant book (formula_count book) cell (Some (contents.Bool b)) found refl ∙ same)))
+constant-right book cell (contents.Error e) v found is =
+    let same : Error' e ≡ v = cc in
+    let straight = not_circular book (formula_count book) cell (ap has_formula found) in
+    sym (ap (option_map (λ _. shown (meaning book cell))) found
+    ∙ ap Some (ap shown (shows_value book cell straight) ∙ ap Some (value_constant book (formula_count book) cell (Some (contents.Error e)) found refl ∙ same)))
 constant-right book cell (contents.Formula tree) v found is = cc
 
 -- a content that is no constant is a formula
 pub no-constant : (book : List (Cell × Content)) (cell : Cell) (x : Content) → content_at book cell ≡ Some x → known_content (Some x) None ≡ None → is_formula book cell ≡ true
 no-constant book cell (contents.Num n) found is = cc
+no-constant book cell (contents.Text t) found is = cc
+no-constant book cell (contents.Bool b) found is = cc
+no-constant book cell (contents.Error e) found is = cc
 no-constant book cell (contents.Formula tree) found is = ap has_formula found
+
+-- one more of the changed cells is shown, where it is a constant
+pub constants-next : (book : List (Cell × Content)) (changed rest after : List Cell) (old new : List (Cell × Option Value)) (cell : Cell)
+    → rest ≡ cell ∷ after → KeepsMeanings book old new → (is_formula book cell ≡ false → ShowsMeaning book new cell)
+    → ((q : Cell) → is_among changed q ≡ true → is_among rest q ≡ false → is_formula book q ≡ false → ShowsMeaning book old q)
+    → (q : Cell) → is_among changed q ≡ true → is_among after q ≡ false → is_formula book q ≡ false → ShowsMeaning book new q
+constants-next book changed rest after old new cell is keeps shows so_far q among left constant = elim (same_cell q cell) as (λ b. same_cell q cell ≡ b → ShowsMeaning book new q) [
+  | true ↦ λ e.
+      let same = same_cell_is q cell e in
+      subst (λ c. ShowsMeaning book new c) (sym same) (shows (subst (λ c. is_formula book c ≡ false) same constant))
+  | false ↦ λ e. keeps q (so_far q among (ap (λ cs. is_among cs q) is ∙ ap (λ b. b || is_among after q) e ∙ left) constant)
+] refl
 
 -- what a stale cell shows
 pub stale-right : (book : List (Cell × Content)) (stale : List Cell) (finished : List (Cell × Value)) → IsEvaluated book stale finished → (cell : Cell) → is_among stale cell ≡ true → is_formula book cell ≡ true

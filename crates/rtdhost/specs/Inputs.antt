@@ -6,7 +6,7 @@ use Rattle.cell_refs.specs.declared.grid.Cell.{Cell}
 use Rattle.cell_refs.specs.Cell.{same_cell}
 use Rattle.cell_refs.specs.RefText.{cell_at}
 use Rattle.cell_values.specs.declared.values.Value.{Value}
-use Rattle.cell_values.specs.declared.values.Value.TheVariants.{Blank, Num as Number'}
+use Rattle.cell_values.specs.declared.values.Value.TheVariants.{Blank, Num as Number', Text as Text', Bool as Bool', Error as Error'}
 use Rattle.cell_values.specs.Value.{add_of}
 use Rattle.sum_formulas.specs.declared.trees.Term.{Term}
 use Rattle.sum_formulas.specs.declared.trees.Term.TheVariants.{Number, Reference}
@@ -23,6 +23,9 @@ use Rattle.workbook.specs.Stale.{is_among}
 abbrev pub known_content : Option Content → Option Value → Option Value
 known_content None formula = Some Blank
 known_content (Some (contents.Num n)) formula = Some (Number' n)
+known_content (Some (contents.Text t)) formula = Some (Text' t)
+known_content (Some (contents.Bool b)) formula = Some (Bool' b)
+known_content (Some (contents.Error e)) formula = Some (Error' e)
 known_content (Some (contents.Formula tree)) formula = formula
 
 -- what is known of the value of a formula cell: where it is stale what is finished, else what was shown
@@ -43,6 +46,9 @@ value_if_known known home terms =
 abbrev pub content_if_known : (Cell → Option Value) → ℕ → Option Content → Option Value
 content_if_known known home None = None
 content_if_known known home (Some (contents.Num n)) = None
+content_if_known known home (Some (contents.Text t)) = None
+content_if_known known home (Some (contents.Bool b)) = None
+content_if_known known home (Some (contents.Error e)) = None
 content_if_known known home (Some (contents.Formula tree)) = value_if_known known home tree
 
 -- the value of a formula cell, where the values of all cells that it names are known

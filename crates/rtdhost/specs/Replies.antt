@@ -24,6 +24,8 @@ cell_line c = line_of (cell_text c.0 ++ 61 ∷ shown_text c.1)
 -- the lines of a reply
 abbrev pub reply_text : Reply → List ℕ
 reply_text replies.Ok = line_of (codes "ok")
+reply_text replies.CellLimit = line_of (codes "full cells")
+reply_text replies.FormulaLimit = line_of (codes "full formulas")
 reply_text replies.Idle = line_of (codes "idle")
 reply_text (replies.Busy n) = line_of (codes "busy " ++ decimal n)
 reply_text (replies.Begun n) = line_of (codes "begun " ++ decimal n)

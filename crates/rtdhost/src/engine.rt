@@ -1,9 +1,9 @@
 //! The engine that the program runs: the state of a host on which nothing stays open.
 
 ghost use Rattle.std.specs.Prelude.{◌≡◌, ◌+◌, ◌^◌, ◌<◌, ◌≤◌, IfOk, OnOk, Ok, true, false};
-ghost use Rattle.std.specs.BTreeMap.{IsOrdered, insert_entry};
+ghost use Rattle.std.specs.BTreeMap.{IsOrdered};
 ghost use Rattle.cell_refs.specs.Cell.{cell_cmp};
-ghost use Rattle.workbook.specs.Book.{SetsContent};
+ghost use Rattle.rtdhost.specs.Engine.{IsReplyToSet};
 ghost use Rattle.rtdhost.specs.Marking.{AddsCell};
 ghost use Rattle.workbook.specs.Meaning.{sheet_of};
 ghost use Rattle.workbook.specs.State.{State, first_state, reply_to, state_after};
@@ -14,7 +14,7 @@ use cell_refs::Cell;
 use cell_values::{Memory, Value};
 use std::alloc::Global;
 use std::collections::{BTreeMap, BTreeSet};
-use workbook::{BeginKind, Book, Command, Content, Form, Reply, SheetCells};
+use workbook::{BeginKind, Book, Command, Content, Form, Reply, SetFault, SheetCells};
 
 /// The book, the cells that were changed since the last completed recalculation, the sheet that it left, its
 /// number, and whether one runs.
@@ -75,9 +75,13 @@ impl Engine {
         if self.running {
             return Ok(Reply::Busy(self.round));
         }
-        add(&mut self.changed, cell)?;
-        put(&mut self.book, cell, content)?;
-        Ok(Reply::Ok)
+        match put(&mut self.book, cell, content)? {
+            Reply::Ok => {
+                add(&mut self.changed, cell)?;
+                Ok(Reply::Ok)
+            }
+            full => Ok(full),
+        }
     }
 
     /// Begins a recalculation.
@@ -148,13 +152,14 @@ fn add(set: &mut BTreeSet<Cell>, cell: Cell) -> Result<(), Memory>
     }
 }
 
-/// Gives a cell of a book this content.
-fn put(book: &mut Book, cell: Cell, content: Content) -> Result<(), Memory>
-    ensures content { OnOk result (book.new ≡ insert_entry cell_cmp book.old cell content) }
-    ensures others { OnOk result (SetsContent book.old book.new cell content) }
+/// Gives a cell of a book this content, where no limit is passed, and answers with Ok or the limit.
+fn put(book: &mut Book, cell: Cell, content: Content) -> Result<Reply, Memory>
+    ensures { IfOk result (IsReplyToSet book.old.contents book.new.contents cell content) }
 {
     match book.set(cell, content) {
-        Ok(()) => Ok(()),
-        Err(_) => Err(Memory),
+        Ok(()) => Ok(Reply::Ok),
+        Err(SetFault::CellLimit(_)) => Ok(Reply::CellLimit),
+        Err(SetFault::FormulaLimit(_)) => Ok(Reply::FormulaLimit),
+        Err(SetFault::Memory(_)) => Err(Memory),
     }
 }

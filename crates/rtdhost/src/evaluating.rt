@@ -1,6 +1,6 @@
 //! Evaluates the stale cells in passes: each pass those whose named cells all have values.
 
-ghost use Rattle.std.specs.Prelude.{◌≡◌, Ok, IfOk, OnOk, option_copied, true, false, Some, is_some};
+ghost use Rattle.std.specs.Prelude.{◌≡◌, Ok, IfOk, OnOk, option_copied, true, false, None, Some, is_some};
 ghost use Rattle.std.specs.Option.{option_map, option_and_then};
 ghost use Rattle.std.specs.Map.{lookup};
 ghost use Rattle.cell_refs.specs.declared.grid.Cell.{Cell};
@@ -9,7 +9,7 @@ ghost use Rattle.cell_values.specs.declared.values.Value.{Value};
 ghost use Rattle.cell_values.specs.Value.{final_of};
 ghost use Rattle.workbook.specs.Book.{IsInOrder, content_at, formula_cells, is_formula};
 ghost use Rattle.workbook.specs.Stale.{is_among};
-ghost use Rattle.rtdhost.specs.Inputs.{known_input, known_formula, value_if_known, ready_value, known_term, sum_if_known, ShowsOthers, AreMeant, KeepsFinished, FinishesReady, IsFinishedOrNew, IsEvaluated};
+ghost use Rattle.rtdhost.specs.Inputs.{known_content, known_input, known_formula, value_if_known, ready_value, known_term, sum_if_known, ShowsOthers, AreMeant, KeepsFinished, FinishesReady, IsFinishedOrNew, IsEvaluated};
 
 use cell_refs::Cell;
 use cell_values::{Memory, Value, add};
@@ -60,12 +60,25 @@ fn known_input(
     cell: Cell,
 ) -> Result<Option<Value>, Memory>
     ensures { IfOk result (λ value. value
-        ≡ known_input sight.entry.book.now sight.entry.stale.now.keys sight.entry.sheet.now.entries finished.now.entries cell) }
+        ≡ known_input sight.entry.book.now.contents sight.entry.stale.now.keys sight.entry.sheet.now.entries finished.now.entries cell) }
 {
     match sight.book.get(cell) {
         None => Ok(Some(Value::Blank)),
-        Some(Content::Num(n)) => Ok(Some(Value::Num(*n))),
         Some(Content::Formula(_)) => known_formula(sight, finished, cell),
+        Some(constant) => constant_value(constant),
+    }
+}
+
+/// The value of a constant; None for a formula.
+pub fn constant_value(content: &Content) -> Result<Option<Value>, Memory>
+    ensures { IfOk result (λ value. value ≡ known_content (Some content.now) None) }
+{
+    match content {
+        Content::Num(n) => Ok(Some(Value::Num(*n))),
+        Content::Text(text) => Ok(Some(Value::Text(text.copy()?))),
+        Content::Bool(b) => Ok(Some(Value::Bool(*b))),
+        Content::Error(kind) => Ok(Some(Value::Error(*kind))),
+        Content::Formula(_) => Ok(None),
     }
 }
 
@@ -77,7 +90,7 @@ fn known_term(
     term: &Term,
 ) -> Result<Option<Value>, Memory>
     ensures { IfOk result (λ value. value
-        ≡ known_term (known_input sight.entry.book.now sight.entry.stale.now.keys sight.entry.sheet.now.entries finished.now.entries) home term.now) }
+        ≡ known_term (known_input sight.entry.book.now.contents sight.entry.stale.now.keys sight.entry.sheet.now.entries finished.now.entries) home term.now) }
 {
     match term {
         Term::Number(n) => Ok(Some(Value::Num(*n))),
@@ -94,7 +107,7 @@ fn sum_if_known(
     terms: &[Term],
 ) -> Result<Option<Value>, Memory>
     ensures { IfOk result (λ value. value
-        ≡ sum_if_known (known_input sight.entry.book.now sight.entry.stale.now.keys sight.entry.sheet.now.entries finished.now.entries) home first terms.now) }
+        ≡ sum_if_known (known_input sight.entry.book.now.contents sight.entry.stale.now.keys sight.entry.sheet.now.entries finished.now.entries) home first terms.now) }
 {
     let mut sum = first;
     for term in terms {
@@ -114,7 +127,7 @@ fn value_if_known(
     terms: &[Term],
 ) -> Result<Option<Value>, Memory>
     ensures { IfOk result (λ value. value
-        ≡ value_if_known (known_input sight.entry.book.now sight.entry.stale.now.keys sight.entry.sheet.now.entries finished.now.entries) home terms.now) }
+        ≡ value_if_known (known_input sight.entry.book.now.contents sight.entry.stale.now.keys sight.entry.sheet.now.entries finished.now.entries) home terms.now) }
 {
     let Some((first, others)) = terms.split_first() else {
         return Ok(Some(Value::Num(0)));
@@ -132,7 +145,7 @@ fn sum_of_both(
     others: &[Term],
 ) -> Result<Option<Value>, Memory>
     ensures { IfOk result (λ value.
-        let known = known_input sight.entry.book.now sight.entry.stale.now.keys sight.entry.sheet.now.entries finished.now.entries in
+        let known = known_input sight.entry.book.now.contents sight.entry.stale.now.keys sight.entry.sheet.now.entries finished.now.entries in
         value ≡ option_and_then (λ v. sum_if_known known home v others.now) (known_term known home first.now)) }
 {
     match known_term(sight, finished, home, first)? {
@@ -158,7 +171,7 @@ fn ready_value(
     cell: Cell,
 ) -> Result<Option<Value>, Memory>
     ensures { IfOk result (λ value. value
-        ≡ ready_value sight.entry.book.now sight.entry.stale.now.keys sight.entry.sheet.now.entries finished.now.entries cell) }
+        ≡ ready_value sight.entry.book.now.contents sight.entry.stale.now.keys sight.entry.sheet.now.entries finished.now.entries cell) }
 {
     match sight.book.get(cell) {
         Some(Content::Formula(tree)) => value_if_known(sight, finished, cell.sheet, tree.terms()),
@@ -174,10 +187,10 @@ fn finish_if_ready(
 ) -> Result<bool, Memory>
     ensures keeps { KeepsFinished finished.old.entries finished.new.entries }
     ensures ready { OnOk result (is_among sight.entry.stale.now.keys cell ≡ true
-        → is_some (ready_value sight.entry.book.now sight.entry.stale.now.keys sight.entry.sheet.now.entries finished.old.entries cell) ≡ true
+        → is_some (ready_value sight.entry.book.now.contents sight.entry.stale.now.keys sight.entry.sheet.now.entries finished.old.entries cell) ≡ true
         → is_some (lookup (same_cell cell) finished.new.entries) ≡ true) }
     ensures only { (other : Cell) (v : Value) → lookup (same_cell other) finished.new.entries ≡ Some v
-        → IsFinishedOrNew sight.entry.book.now sight.entry.stale.now.keys sight.entry.sheet.now.entries finished.old.entries cell other v }
+        → IsFinishedOrNew sight.entry.book.now.contents sight.entry.stale.now.keys sight.entry.sheet.now.entries finished.old.entries cell other v }
     ensures idle { result ≡ Ok false → finished.new.entries ≡ finished.old.entries }
 {
     if !sight.stale.contains(&cell) || finished.contains_key(&cell) {
@@ -199,9 +212,9 @@ fn evaluate_pass(
     finished: &mut BTreeMap<Cell, Value>,
 ) -> Result<bool, Memory>
     ensures keeps { KeepsFinished finished.old.entries finished.new.entries }
-    ensures ready { OnOk result (FinishesReady sight.entry.book.now sight.entry.stale.now.keys sight.entry.sheet.now.entries finished.old.entries cells.now finished.new.entries) }
-    ensures meant { OnOk result (IsInOrder sight.entry.book.now → ShowsOthers sight.entry.book.now sight.entry.stale.now.keys sight.entry.sheet.now.entries
-        → AreMeant sight.entry.book.now sight.entry.stale.now.keys finished.old.entries → AreMeant sight.entry.book.now sight.entry.stale.now.keys finished.new.entries) }
+    ensures ready { OnOk result (FinishesReady sight.entry.book.now.contents sight.entry.stale.now.keys sight.entry.sheet.now.entries finished.old.entries cells.now finished.new.entries) }
+    ensures meant { OnOk result (IsInOrder sight.entry.book.now.contents → ShowsOthers sight.entry.book.now.contents sight.entry.stale.now.keys sight.entry.sheet.now.entries
+        → AreMeant sight.entry.book.now.contents sight.entry.stale.now.keys finished.old.entries → AreMeant sight.entry.book.now.contents sight.entry.stale.now.keys finished.new.entries) }
     ensures idle { result ≡ Ok false → finished.new.entries ≡ finished.old.entries }
 {
     let mut moved = false;
@@ -218,11 +231,11 @@ pub fn evaluate(
     sight: Sight<'_>,
     formulas: &[Cell],
 ) -> Result<BTreeMap<Cell, Value>, Memory>
-    requires ordered { IsInOrder sight.book.now }
-    requires formulas { formulas.now ≡ formula_cells sight.book.now }
-    requires stale { (c : Cell) → is_among sight.stale.now.keys c ≡ true → is_formula sight.book.now c ≡ true }
-    ensures { IfOk result (λ finished. ShowsOthers sight.entry.book.now sight.entry.stale.now.keys sight.entry.sheet.now.entries
-        → IsEvaluated sight.entry.book.now sight.entry.stale.now.keys finished.entries) }
+    requires ordered { IsInOrder sight.book.now.contents }
+    requires formulas { formulas.now ≡ formula_cells sight.book.now.contents }
+    requires stale { (c : Cell) → is_among sight.stale.now.keys c ≡ true → is_formula sight.book.now.contents c ≡ true }
+    ensures { IfOk result (λ finished. ShowsOthers sight.entry.book.now.contents sight.entry.stale.now.keys sight.entry.sheet.now.entries
+        → IsEvaluated sight.entry.book.now.contents sight.entry.stale.now.keys finished.entries) }
 {
     let mut finished = BTreeMap::new(alloc);
     for _ in formulas {

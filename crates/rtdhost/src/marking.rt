@@ -38,7 +38,7 @@ fn names_hot(changed: &BTreeSet<Cell>, marks: &BTreeSet<Cell>, terms: &[Term], h
 
 /// Whether a cell is changed, or names a cell that is changed or marked.
 fn is_touched(book: &Book, changed: &BTreeSet<Cell>, marks: &BTreeSet<Cell>, cell: Cell) -> bool
-    ensures { result ≡ is_touched book.now changed.now.keys marks.now.keys cell }
+    ensures { result ≡ is_touched book.now.contents changed.now.keys marks.now.keys cell }
 {
     if changed.contains(&cell) {
         return true;
@@ -57,10 +57,10 @@ fn mark_touched(
     marks: &mut BTreeSet<Cell>,
 ) -> Result<bool, Memory>
     ensures keeps { KeepsMarks marks.old.keys marks.new.keys }
-    ensures touched { OnOk result (is_touched book.now changed.now.keys marks.old.keys cell ≡ true
+    ensures touched { OnOk result (is_touched book.now.contents changed.now.keys marks.old.keys cell ≡ true
         → is_among marks.new.keys cell ≡ true) }
     ensures only { (other : Cell) → is_among marks.new.keys other ≡ true
-        → IsMarkedOrNew book.now changed.now.keys marks.old.keys cell other }
+        → IsMarkedOrNew book.now.contents changed.now.keys marks.old.keys cell other }
     ensures idle { result ≡ Ok false → marks.new.keys ≡ marks.old.keys }
 {
     if marks.contains(&cell) || !is_touched(book, changed, marks, cell) {
@@ -80,9 +80,9 @@ fn mark_pass(
     marks: &mut BTreeSet<Cell>,
 ) -> Result<bool, Memory>
     ensures keeps { KeepsMarks marks.old.keys marks.new.keys }
-    ensures touched { OnOk result (MarksTouched book.now changed.now.keys marks.old.keys cells.now marks.new.keys) }
-    ensures only_stale { OnOk result (IsInOrder book.now → AreFormulas book.now cells.now
-        → AreStale book.now changed.now.keys marks.old.keys → AreStale book.now changed.now.keys marks.new.keys) }
+    ensures touched { OnOk result (MarksTouched book.now.contents changed.now.keys marks.old.keys cells.now marks.new.keys) }
+    ensures only_stale { OnOk result (IsInOrder book.now.contents → AreFormulas book.now.contents cells.now
+        → AreStale book.now.contents changed.now.keys marks.old.keys → AreStale book.now.contents changed.now.keys marks.new.keys) }
     ensures idle { result ≡ Ok false → marks.new.keys ≡ marks.old.keys }
 {
     let mut grew = false;
@@ -100,9 +100,9 @@ pub fn stale_cells(
     changed: &BTreeSet<Cell>,
     formulas: &[Cell],
 ) -> Result<BTreeSet<Cell>, Memory>
-    requires ordered { IsInOrder book.now }
-    requires formulas { formulas.now ≡ formula_cells book.now }
-    ensures { IfOk result (λ stale. (cell : Cell) → is_among stale.keys cell ≡ is_stale book.now changed.now.keys cell) }
+    requires ordered { IsInOrder book.now.contents }
+    requires formulas { formulas.now ≡ formula_cells book.now.contents }
+    ensures { IfOk result (λ stale. (cell : Cell) → is_among stale.keys cell ≡ is_stale book.now.contents changed.now.keys cell) }
 {
     let mut marks = BTreeSet::new(alloc);
     for _ in formulas {
@@ -115,8 +115,8 @@ pub fn stale_cells(
 
 /// The cells with a formula, in cell order.
 pub fn formula_cells(alloc: Global, book: &Book) -> Result<Vec<Cell>, Memory>
-    ensures cells { IfOk result (λ cells. cells.items ≡ formula_cells book.now) }
-    ensures ordered { IsInOrder book.now }
+    ensures cells { IfOk result (λ cells. cells.items ≡ formula_cells book.now.contents) }
+    ensures ordered { IsInOrder book.now.contents }
 {
     let mut cells = Vec::new(alloc);
     let mut after = None;
@@ -129,7 +129,7 @@ pub fn formula_cells(alloc: Global, book: &Book) -> Result<Vec<Cell>, Memory>
 
 /// Adds the cell to the list if it has a formula.
 fn push_formula(book: &Book, cell: Cell, cells: &mut Vec<Cell>) -> Result<(), Memory>
-    ensures { OnOk result (cells.new.items ≡ cells.old.items ++ (if is_formula book.now cell then cell ∷ [] else [])) }
+    ensures { OnOk result (cells.new.items ≡ cells.old.items ++ (if is_formula book.now.contents cell then cell ∷ [] else [])) }
 {
     if !has_formula(book, cell) {
         return Ok(());
@@ -141,7 +141,7 @@ fn push_formula(book: &Book, cell: Cell, cells: &mut Vec<Cell>) -> Result<(), Me
 }
 
 fn has_formula(book: &Book, cell: Cell) -> bool
-    ensures { result ≡ is_formula book.now cell }
+    ensures { result ≡ is_formula book.now.contents cell }
 {
     match book.get(cell) {
         Some(content) => content.is_formula(),

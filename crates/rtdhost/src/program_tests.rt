@@ -8,7 +8,7 @@ use std::process::Abort;
 use std::test::Fail;
 
 /// The status with which the words `run` end.
-fn run(alloc: Global, src: &mut MemorySource, out: &mut MemorySink) -> Result<Status, Fail> {
+pub fn run(alloc: Global, src: &mut MemorySource, out: &mut MemorySink) -> Result<Status, Fail> {
     let words = vec![in alloc; String::from_str(alloc, "run")?]?;
     Ok(rtd_host_plain(alloc, words.as_slice(), src, out))
 }
@@ -65,6 +65,141 @@ fn only_what_a_changed_cell_reaches_is_stale(rt: HostRuntime) -> Result<(), Fail
     let want = "ok\nok\nok\nok\nbegun 1\ndone 1 cells 3\nok\nbegun 2\ndone 2 cells 2\n\
         A1=2\nB1=5\nA2=2\nA3=2\nend\nbegun 3\ndone 3 cells 0\n";
     plays(&rt, rt.alloc(), script, 1000, want)
+}
+
+/// Sets a content, recalculates, and compares what the cell shows.
+fn shows(
+    rt: &impl Abort,
+    alloc: Global,
+    content: &str,
+    stale: u32,
+    word: &str,
+) -> Result<(), Fail> {
+    let script = format!(in alloc; "set A1 {content}\ncalc\nprint\n")?;
+    let want = format!(in alloc; "ok\nbegun 1\ndone 1 cells {stale}\nA1={word}\nend\n")?;
+    plays(rt, alloc, script.as_str(), 1000, want.as_str())
+}
+
+#[test]
+fn numbers_booleans_errors_and_formulas_show_their_words(rt: HostRuntime) -> Result<(), Fail> {
+    shows(&rt, rt.alloc(), "=2+3", 1, "5")?;
+    let table = [
+        ("TRUE", "TRUE"),
+        ("tRuE", "TRUE"),
+        ("false", "FALSE"),
+        ("#N/A", "#N/A"),
+        ("#DIV/0!", "#DIV/0!"),
+        ("-0", "0"),
+        ("007", "7"),
+        ("-007", "-7"),
+        ("-999999999999999", "-999999999999999"),
+    ];
+    for (content, word) in table {
+        shows(&rt, rt.alloc(), content, 0, word)?;
+    }
+    Ok(())
+}
+
+#[test]
+fn texts_show_between_quotes(rt: HostRuntime) -> Result<(), Fail> {
+    shows(&rt, rt.alloc(), "é", 0, "\"é\"")?;
+    let table = [
+        ("'x", "\"x\""),
+        ("'", "\"\""),
+        ("'=A1", "\"=A1\""),
+        ("'-7", "\"-7\""),
+        ("#n/a", "\"#n/a\""),
+        ("-", "\"-\""),
+        ("+7", "\"+7\""),
+        ("1.5", "\"1.5\""),
+        ("a\"b", "\"a\"\"b\""),
+        (" two  words ", "\" two  words \""),
+    ];
+    for (content, word) in table {
+        shows(&rt, rt.alloc(), content, 0, word)?;
+    }
+    Ok(())
+}
+
+#[test]
+fn sums_take_constants_of_every_kind(rt: HostRuntime) -> Result<(), Fail> {
+    let table = [
+        ("'x", "#VALUE!"),
+        ("' 7 ", "8"),
+        ("TRUE", "2"),
+        ("FALSE", "1"),
+        ("#N/A", "#N/A"),
+        ("-0", "1"),
+        ("007", "8"),
+    ];
+    for (content, word) in table {
+        let script = format!(in rt.alloc();
+            "set B1 {content}\nset A1 =B1+1\ncalc\nset B1 =1\nprint\n"
+        )?;
+        let bytes = Vec::from_slice(rt.alloc(), script.as_bytes())?;
+        let want = format!(in rt.alloc(); "ok\nok\nbegun 1\ndone 1 cells 1\nok\nA1={word}\n")?;
+        let mut src = MemorySource::new(bytes, 1000, Vec::new(rt.alloc()));
+        let mut out = MemorySink::new(rt.alloc(), 1000, Vec::new(rt.alloc()));
+        assert_eq!(rt; run(rt.alloc(), &mut src, &mut out)?, Status::Ok);
+        assert!(rt;
+            out.written().starts_with(want.as_bytes()),
+            "at {content:?}"
+        );
+    }
+    Ok(())
+}
+
+#[test]
+fn cells_on_other_sheets(rt: HostRuntime) -> Result<(), Fail> {
+    let script =
+        "set sheet2!$A$1 1\nset Sheet2!B1 =A1+2\nset A1 'x\nset Sheet65!A1 1\nset Sheet2! 1\ncalc\nprint\n";
+    let want = "ok\nok\nok\nbad later\nbad later\nbegun 1\ndone 1 cells 1\n\
+        A1=\"x\"\nSheet2!A1=1\nSheet2!B1=3\nend\n";
+    plays(&rt, rt.alloc(), script, 1000, want)
+}
+
+#[test]
+fn contents_that_are_not_read(rt: HostRuntime) -> Result<(), Fail> {
+    let contents = [
+        "",
+        "1000000000000000",
+        "-1000000000000000",
+        "00000000000000000000000000000001000000000000000",
+        "=",
+        "=A1+",
+        "a\tb",
+        "'a\u{7f}",
+        "\u{1}",
+        "TRUE\t",
+    ];
+    for content in contents {
+        let script = format!(in rt.alloc(); "set A1 {content}\ncalc\nprint\n")?;
+        let want = "bad later\nbegun 1\ndone 1 cells 0\nend\n";
+        plays(&rt, rt.alloc(), script.as_str(), 1000, want)?;
+    }
+    Ok(())
+}
+
+#[test]
+fn a_text_has_at_most_32767_characters(rt: HostRuntime) -> Result<(), Fail> {
+    for (front, count, want) in [
+        ("set A1 ", 32_767, "ok\n"),
+        ("set A1 ", 32_768, "bad later\n"),
+        ("set A1 '", 32_767, "ok\n"),
+        ("set A1 '", 32_768, "bad later\n"),
+    ] {
+        let mut bytes = Vec::from_slice(rt.alloc(), front.as_bytes())?;
+        bytes.extend_from_slice(vec![in rt.alloc(); b'x'; count]?.as_slice())?;
+        let mut src = MemorySource::new(bytes, 1000, Vec::new(rt.alloc()));
+        let mut out = MemorySink::new(rt.alloc(), 1000, Vec::new(rt.alloc()));
+        assert_eq!(rt; run(rt.alloc(), &mut src, &mut out)?, Status::Ok);
+        assert_eq!(rt;
+            out.written(),
+            want.as_bytes(),
+            "of {count} behind {front:?}"
+        );
+    }
+    Ok(())
 }
 
 #[test]

@@ -1,19 +1,19 @@
 //! Shows the values of a completed recalculation.
 
-ghost use Rattle.std.specs.Prelude.{◌≡◌, OnOk, true, false, Some, None};
+ghost use Rattle.std.specs.Prelude.{◌≡◌, OnOk, true, false};
 ghost use Rattle.cell_refs.specs.declared.grid.Cell.{Cell};
 ghost use Rattle.workbook.specs.Book.{IsInOrder, is_formula};
 ghost use Rattle.workbook.specs.Stale.{is_among};
-ghost use Rattle.rtdhost.specs.Inputs.{IsEvaluated, known_content};
+ghost use Rattle.rtdhost.specs.Inputs.{IsEvaluated};
 ghost use Rattle.rtdhost.specs.Publishing.{ShowsMeaning, KeepsMeanings, ShowsConstants, ShowsStale, ShowsAt, ShowsIfStale};
 ghost use Rattle.std.specs.Prelude.{List};
 ghost use Rattle.workbook.specs.declared.contents.Content.{Content};
 
-use super::evaluating::copied;
+use super::evaluating::{constant_value, copied};
 use cell_refs::Cell;
 use cell_values::{Memory, Value};
 use std::collections::{BTreeMap, BTreeSet};
-use workbook::{Book, Content};
+use workbook::Book;
 
 /// Shows a value at a cell.
 fn show(
@@ -35,27 +35,17 @@ fn show_constant(
     cell: Cell,
     sheet: &mut BTreeMap<Cell, Option<Value>>,
 ) -> Result<(), Memory>
-    ensures keeps { OnOk result (KeepsMeanings book.now sheet.old.entries sheet.new.entries) }
-    ensures shows { OnOk result (is_formula book.now cell ≡ false → ShowsMeaning book.now sheet.new.entries cell) }
+    ensures keeps { OnOk result (KeepsMeanings book.now.contents sheet.old.entries sheet.new.entries) }
+    ensures shows { OnOk result (is_formula book.now.contents cell ≡ false → ShowsMeaning book.now.contents sheet.new.entries cell) }
 {
     let Some(content) = book.get(cell) else {
         sheet.remove(&cell);
         return Ok(());
     };
-    if let Some(value) = constant(content) {
+    if let Some(value) = constant_value(content)? {
         show(sheet, cell, Some(value))?;
     }
     Ok(())
-}
-
-/// The value of a constant; None for a formula.
-fn constant(content: &Content) -> Option<Value>
-    ensures { result ≡ known_content (Some content.now) None }
-{
-    match content {
-        Content::Num(n) => Some(Value::Num(*n)),
-        Content::Formula(_) => None,
-    }
 }
 
 /// Shows the changed cells that have no formula.
@@ -64,8 +54,8 @@ pub fn show_constants(
     changed: &BTreeSet<Cell>,
     sheet: &mut BTreeMap<Cell, Option<Value>>,
 ) -> Result<(), Memory>
-    ensures keeps { OnOk result (KeepsMeanings book.now sheet.old.entries sheet.new.entries) }
-    ensures shows { OnOk result (ShowsConstants book.now changed.now.keys sheet.new.entries) }
+    ensures keeps { OnOk result (KeepsMeanings book.now.contents sheet.old.entries sheet.new.entries) }
+    ensures shows { OnOk result (ShowsConstants book.now.contents changed.now.keys sheet.new.entries) }
 {
     for cell in changed {
         show_constant(book, *cell, sheet)?;

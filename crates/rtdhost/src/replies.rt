@@ -43,6 +43,8 @@ fn push_reply(reply: &Reply, out: &mut Vec<u8>) -> Result<(), Memory>
 {
     match reply {
         Reply::Ok => push_line(b"ok", out),
+        Reply::CellLimit => push_line(b"full cells", out),
+        Reply::FormulaLimit => push_line(b"full formulas", out),
         Reply::Idle => push_line(b"idle", out),
         Reply::Busy(n) => push_numbered(b"busy ", *n, out),
         Reply::Begun(n) => push_numbered(b"begun ", *n, out),

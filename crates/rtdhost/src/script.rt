@@ -5,9 +5,9 @@ ghost use Rattle.std.specs.Prelude.{option_map};
 ghost use Rattle.sum_formulas.specs.Grammar.{formula_of};
 ghost use Rattle.rtdhost.specs.Script.{cell_of, content_of, set_said, word_said, words_said, line_said};
 
+use super::constants::{read_constant, read_text};
 use super::lines::MAX_LINE;
 use cell_refs::{Cell, read_ref};
-use cell_values::read_number_word;
 use std::alloc::Global;
 use std::str;
 use sum_formulas::{ParseFault, parse};
@@ -99,7 +99,7 @@ fn read_cell(text: &[u8]) -> Option<Cell>
     ensures { result ≡ cell_of text.now }
 {
     let (reference, length) = read_ref(text)?;
-    if length == text.len() && reference.sheet.is_none() {
+    if length == text.len() {
         Some(reference.at(1))
     } else {
         None
@@ -111,12 +111,11 @@ fn read_content(alloc: Global, text: &str) -> Result<Content, BadLine>
     ensures said { IfOk result (λ content. content_of text.now ≡ Some content) }
     ensures later { result ≡ Err BadLine.Later → content_of text.now ≡ None }
 {
-    if text.as_bytes().first() == Some(&b'=') {
-        return read_formula(alloc, text);
-    }
-    match read_number_word(text.as_bytes()) {
-        Some(n) => Ok(Content::Num(n)),
-        None => Err(BadLine::Later),
+    match text.as_bytes() {
+        [] => Err(BadLine::Later),
+        [b'=', ..] => read_formula(alloc, text),
+        [b'\'', bytes @ ..] => read_text(alloc, bytes),
+        [_, ..] => read_constant(alloc, text),
     }
 }
 

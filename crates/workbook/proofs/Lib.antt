@@ -2,6 +2,7 @@
 pub mod Cells
 pub mod Counts
 pub mod Entries
+pub mod FunctionLaws
 pub mod Settling
 pub mod Walking
 pub mod Reaching

@@ -38,11 +38,17 @@ evaluated_alike (Reference r ∷ terms) home f g each =
 pub content_alike : (content : Option Content) (home : ℕ) (f g : Cell → Value) → AllByRecursion (λ d. f d ≡ g d) (named_by content home) → content_value content home f ≡ content_value content home g
 content_alike None home f g each = refl
 content_alike (Some (contents.Num n)) home f g each = refl
+content_alike (Some (contents.Text t)) home f g each = refl
+content_alike (Some (contents.Bool b)) home f g each = refl
+content_alike (Some (contents.Error e)) home f g each = refl
 content_alike (Some (contents.Formula tree)) home f g each = evaluated_alike tree home f g each
 
 constant_alike : (content : Option Content) (home : ℕ) (f g : Cell → Value) → has_formula content ≡ false → content_value content home f ≡ content_value content home g
 constant_alike None home f g h = refl
 constant_alike (Some (contents.Num n)) home f g h = refl
+constant_alike (Some (contents.Text t)) home f g h = refl
+constant_alike (Some (contents.Bool b)) home f g h = refl
+constant_alike (Some (contents.Error e)) home f g h = refl
 constant_alike (Some (contents.Formula tree)) home f g h = cc
 
 -- no element passes

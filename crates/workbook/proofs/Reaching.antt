@@ -31,6 +31,9 @@ reaches-more book changed (suc n) c h = or_both (is_among changed c) _ _ (any_le
 no_steps : (content : Option Content) (home : ℕ) (p : Cell → Bool) → has_formula content ≡ false → list_any p (named_by content home) ≡ false
 no_steps None home p h = refl
 no_steps (Some (contents.Num n)) home p h = refl
+no_steps (Some (contents.Text t)) home p h = refl
+no_steps (Some (contents.Bool b)) home p h = refl
+no_steps (Some (contents.Error e)) home p h = refl
 no_steps (Some (contents.Formula tree)) home p h = cc
 
 or_none : (a b : Bool) → b ≡ false → (a || b) ≡ a

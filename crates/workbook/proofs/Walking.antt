@@ -28,6 +28,9 @@ any_alike p q alike (x ∷ xs) = cc_or (alike x) (any_alike p q alike xs)
 only_formulas : (content : Option Content) (home : ℕ) (p : Cell → Bool) → list_any p (named_by content home) ≡ true → has_formula content ≡ true
 only_formulas None home p h = h
 only_formulas (Some (contents.Num n)) home p h = h
+only_formulas (Some (contents.Text t)) home p h = h
+only_formulas (Some (contents.Bool b)) home p h = h
+only_formulas (Some (contents.Error e)) home p h = h
 only_formulas (Some (contents.Formula tree)) home p h = refl
 
 pub walks-formula : (book : List (Cell × Content)) (n : ℕ) (c : Cell) → walks_on book n c ≡ true → is_formula book c ≡ true

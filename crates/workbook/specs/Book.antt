@@ -1,5 +1,5 @@
--- The book: the cells with content, in cell order.
-use Rattle.std.specs.Prelude.{◌≡◌, ℕ, Bool, true, false, if◌then◌else◌, Option, None, Some, List, [], ◌∷◌}
+-- The book: the cells with content, in cell order, and the registered functions.
+use Rattle.std.specs.Prelude.{◌≡◌, ℕ, Bool, true, false, not, ◌&&◌, nat_le, if◌then◌else◌, Option, None, Some, is_none, List, [], ◌∷◌, length}
 use Rattle.std.specs.List.{count_by, filter}
 use Rattle.std.specs.Ordering.{is_lt}
 use Rattle.std.specs.Map.{lookup, keys_of}
@@ -7,8 +7,16 @@ use Rattle.std.specs.List.Sorted.{IsStrictlySortedBy}
 use Rattle.cell_refs.specs.declared.grid.Cell.{Cell}
 use Rattle.cell_refs.specs.Cell.{cell_cmp, same_cell}
 use Rattle.sum_formulas.specs.Tree.{precedents}
+use Rattle.addin_types.specs.declared.registrations.Registration.{Registration}
 use Rattle.workbook.specs.declared.contents.Content.{Content}
 use Rattle.workbook.specs.declared.contents.Content.TheVariants as contents
+use Rattle.workbook.specs.declared.books.SetFault.{SetFault}
+use Rattle.workbook.specs.declared.books.SetFault.TheVariants as faults
+
+-- a book: the cells with content, in cell order, and the functions by name, in the order of the names' bytes
+pub record BookState : Type 0 where
+  pub contents : List (Cell × Content)
+  pub functions : List (List ℕ × Registration)
 
 -- the cells of a book stand in cell order, each once
 abbrev pub IsInOrder : List (Cell × Content) → Type 0
@@ -18,6 +26,10 @@ IsInOrder book = IsStrictlySortedBy cell_cmp (keys_of book)
 abbrev pub content_at : List (Cell × Content) → Cell → Option Content
 content_at book cell = lookup (same_cell cell) book
 
+-- new has this content at the cell, or none, and elsewhere what old has
+abbrev pub PutsContent : List (Cell × Content) → List (Cell × Content) → Cell → Option Content → Type 0
+PutsContent old new cell content = (q : Cell) → content_at new q ≡ (if same_cell cell q then content else content_at old q)
+
 -- new has this content at the cell, and elsewhere what old has
 abbrev pub SetsContent : List (Cell × Content) → List (Cell × Content) → Cell → Content → Type 0
 SetsContent old new cell content = (q : Cell) → content_at new q ≡ (if same_cell cell q then Some content else content_at old q)
@@ -26,6 +38,9 @@ SetsContent old new cell content = (q : Cell) → content_at new q ≡ (if same_
 abbrev pub has_formula : Option Content → Bool
 has_formula None = false
 has_formula (Some (contents.Num n)) = false
+has_formula (Some (contents.Text t)) = false
+has_formula (Some (contents.Bool b)) = false
+has_formula (Some (contents.Error e)) = false
 has_formula (Some (contents.Formula tree)) = true
 
 -- 1 for a formula, else 0
@@ -44,10 +59,40 @@ formula_cells book = keys_of (filter (λ e. has_formula (Some e.1)) book)
 abbrev pub is_formula : List (Cell × Content) → Cell → Bool
 is_formula book cell = has_formula (content_at book cell)
 
+-- the most cells with content
+abbrev pub CELL_LIMIT : ℕ
+CELL_LIMIT = 500000
+
+-- the most cells with a formula
+abbrev pub FORMULA_LIMIT : ℕ
+FORMULA_LIMIT = 100000
+
+-- whether a content at this cell would be that of one cell too many
+abbrev pub exceeds_cells : List (Cell × Content) → Cell → Bool
+exceeds_cells book cell = is_none (content_at book cell) && nat_le CELL_LIMIT (length book)
+
+-- whether this content at the cell would be one formula too many; in place of a formula it is none more
+abbrev pub exceeds_formulas : List (Cell × Content) → Cell → Content → Bool
+exceeds_formulas book cell content = has_formula (Some content) && (not (is_formula book cell) && nat_le FORMULA_LIMIT (formula_count book))
+
+-- why a content is refused for a limit, if it is: the limit of cells comes first
+abbrev pub limit_fault : List (Cell × Content) → Cell → Content → Option SetFault
+limit_fault book cell content =
+    if exceeds_cells book cell then Some (faults.CellLimit content)
+    else (if exceeds_formulas book cell content then Some (faults.FormulaLimit content) else None)
+
+-- a refusal comes from a limit, or from want of memory where no limit is passed; it gives this very content back
+abbrev pub IsRefusal : Option SetFault → Content → SetFault → Type 0
+IsRefusal (Some limit) content fault = fault ≡ limit
+IsRefusal None content fault = fault ≡ faults.Memory content
+
 -- the cells that a content names, where it stands on the sheet home
 abbrev pub named_by : Option Content → ℕ → List Cell
 named_by None home = []
 named_by (Some (contents.Num n)) home = []
+named_by (Some (contents.Text t)) home = []
+named_by (Some (contents.Bool b)) home = []
+named_by (Some (contents.Error e)) home = []
 named_by (Some (contents.Formula tree)) home = precedents tree home
 
 -- the cells that the formula of a cell names

@@ -2,6 +2,7 @@
 pub mod Book
 pub mod Circular
 pub mod Evaluation
+pub mod Functions
 pub mod Meaning
 pub mod Stale
 pub mod State

@@ -13,6 +13,9 @@ use Rattle.workbook.specs.Evaluation.{evaluated}
 abbrev pub content_value : Option Content → ℕ → (Cell → Value) → Value
 content_value None home input = values.Blank
 content_value (Some (contents.Num n)) home input = values.Num n
+content_value (Some (contents.Text t)) home input = values.Text t
+content_value (Some (contents.Bool b)) home input = values.Bool b
+content_value (Some (contents.Error e)) home input = values.Error e
 content_value (Some (contents.Formula tree)) home input = evaluated tree home input
 
 -- the value of a cell from which walks along formula cells have fewer steps than this

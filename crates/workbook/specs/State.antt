@@ -1,5 +1,5 @@
 -- The state of the host, and what each command makes of it.
-use Rattle.std.specs.Prelude.{ℕ, ◌+◌, Bool, true, false, if◌then◌else◌, List, [], ◌∷◌}
+use Rattle.std.specs.Prelude.{ℕ, ◌+◌, Bool, true, false, ◌||◌, if◌then◌else◌, List, [], ◌∷◌}
 use Rattle.std.specs.BTreeMap.{insert_entry}
 use Rattle.cell_refs.specs.declared.grid.Cell.{Cell}
 use Rattle.cell_refs.specs.Cell.{cell_cmp}
@@ -8,6 +8,7 @@ use Rattle.workbook.specs.declared.commands.Command.{Command}
 use Rattle.workbook.specs.declared.commands.Command.TheVariants as commands
 use Rattle.workbook.specs.declared.replies.Reply.{Reply}
 use Rattle.workbook.specs.declared.replies.Reply.TheVariants as replies
+use Rattle.workbook.specs.Book.{exceeds_cells, exceeds_formulas}
 use Rattle.workbook.specs.Meaning.{sheet_of}
 use Rattle.workbook.specs.Stale.{stale_count}
 
@@ -28,9 +29,14 @@ pub record State : Type 0 where
 abbrev pub first_state : State
 first_state = record { book = []; changed = []; completed = []; round = 0; running = false }
 
+-- the reply to a content for a cell while no recalculation runs: a limit that it would pass, that of cells first
+abbrev pub reply_to_set : List (Cell × Content) → Cell → Content → Reply
+reply_to_set book cell content =
+    if exceeds_cells book cell then replies.CellLimit else (if exceeds_formulas book cell content then replies.FormulaLimit else replies.Ok)
+
 -- the reply to a command while no recalculation runs
 abbrev pub reply_at_rest : State → Command → Reply
-reply_at_rest s (commands.Set cell content) = replies.Ok
+reply_at_rest s (commands.Set cell content) = reply_to_set s.book cell content
 reply_at_rest s (commands.Begin kind) = replies.Begun (s.round + 1)
 reply_at_rest s commands.Settle = replies.Idle
 reply_at_rest s (commands.Print form) = replies.Sheet form (sheet_of s.completed)
@@ -44,7 +50,9 @@ reply_in_round s (commands.Print form) = replies.Sheet form (sheet_of s.complete
 
 -- the state after a command while no recalculation runs
 abbrev pub after_at_rest : State → Command → State
-after_at_rest s (commands.Set cell content) = record s { book = insert_entry cell_cmp s.book cell content; changed = cell ∷ s.changed }
+after_at_rest s (commands.Set cell content) =
+    if exceeds_cells s.book cell || exceeds_formulas s.book cell content then s
+    else record s { book = insert_entry cell_cmp s.book cell content; changed = cell ∷ s.changed }
 after_at_rest s (commands.Begin kind) = record s { round = s.round + 1; running = true }
 after_at_rest s commands.Settle = s
 after_at_rest s (commands.Print form) = s

@@ -1,5 +1,6 @@
 ghost use Rattle.std.specs.Prelude.{◌≡◌, Some};
 
+use cell_values::{ErrorKind, Text};
 use sum_formulas::Tree;
 
 /// The content of a cell: a constant or a formula.
@@ -7,6 +8,9 @@ use sum_formulas::Tree;
 pub enum Content {
     /// A number of magnitude at most 999,999,999,999,999.
     Num(i64),
+    Text(Text),
+    Bool(bool),
+    Error(ErrorKind),
     Formula(Tree),
 }
 
@@ -18,8 +22,8 @@ impl Content {
         ensures { result ≡ has_formula (Some self.now) }
     {
         match self {
-            Content::Num(_) => false,
             Content::Formula(_) => true,
+            Content::Num(_) | Content::Text(_) | Content::Bool(_) | Content::Error(_) => false,
         }
     }
 

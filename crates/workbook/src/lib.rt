@@ -5,11 +5,12 @@ mod books;
 mod commands;
 mod contents;
 mod laws;
+mod registry;
 mod replies;
 #[cfg(test)]
 mod tests;
 
-pub use books::{Book, SetFault};
+pub use books::{Book, CELL_LIMIT, FORMULA_LIMIT, SetFault};
 pub use commands::{BeginKind, Command, Form};
 pub use contents::Content;
 pub use laws::{circular_cells, kept_meanings, meanings_of_formulas, reached_cells};

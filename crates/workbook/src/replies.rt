@@ -41,6 +41,10 @@ impl SheetCells {
 #[derive(Drop)]
 pub enum Reply {
     Ok,
+    /// The cell has no content, and as many cells have one as may.
+    CellLimit,
+    /// The cell has no formula, and as many cells have one as may.
+    FormulaLimit,
     Idle,
     /// A recalculation of this number runs.
     Busy(u64),

@@ -1,8 +1,9 @@
-use super::books::Book;
+use super::books::{Book, CELL_LIMIT, FORMULA_LIMIT, SetFault};
 use super::contents::Content;
 use super::replies::SheetCells;
+use addin_types::{Kind, Registration};
 use cell_refs::Cell;
-use cell_values::Value;
+use cell_values::{ErrorKind, Name, Text, Value};
 use std::test::Fail;
 use sum_formulas::parse;
 
@@ -22,6 +23,14 @@ fn number_of(content: Option<&Content>) -> Option<i64> {
 fn terms_of(content: Option<&Content>) -> Option<usize> {
     match content {
         Some(Content::Formula(tree)) => Some(tree.terms().len()),
+        _ => None,
+    }
+}
+
+/// The text of a constant.
+fn text_of(content: Option<&Content>) -> Option<&str> {
+    match content {
+        Some(Content::Text(text)) => Some(text.as_str()),
         _ => None,
     }
 }
@@ -68,6 +77,103 @@ fn a_replaced_content_counts_no_more(rt: HostRuntime) -> Result<(), Fail> {
             "at row {row}"
         );
     }
+    Ok(())
+}
+
+#[test]
+fn a_content_is_of_one_of_five_kinds(rt: HostRuntime) -> Result<(), Fail> {
+    let at = cell(1, 1, 1);
+    let mut book = Book::new(rt.alloc());
+    let text = Text::new(rt.alloc(), "'=A1")?;
+    assert!(rt; book.set(at, Content::Text(text)).is_ok());
+    assert_eq!(rt; text_of(book.get(at)), Some("'=A1"));
+    assert!(rt; book.set(at, Content::Bool(true)).is_ok());
+    assert!(rt; matches!(book.get(at), Some(Content::Bool(true))));
+    assert!(rt; book.set(at, Content::Error(ErrorKind::Na)).is_ok());
+    assert!(rt; matches!(book.get(at), Some(Content::Error(ErrorKind::Na))));
+    assert_eq!(rt; (book.cells(), book.formulas()), (1, 0));
+    Ok(())
+}
+
+#[test]
+fn a_cleared_cell_has_no_content(rt: HostRuntime) -> Result<(), Fail> {
+    let (first, second) = (cell(1, 1, 1), cell(1, 2, 1));
+    let mut book = Book::new(rt.alloc());
+    assert!(rt; book.clear(first).is_none());
+    assert!(rt;
+        book.set(first, Content::Formula(parse(rt.alloc(), "=A2+3")?))
+            .is_ok()
+    );
+    assert!(rt; book.set(second, Content::Num(2)).is_ok());
+    assert_eq!(rt; terms_of(book.clear(first).as_ref()), Some(2));
+    assert!(rt; book.get(first).is_none());
+    assert_eq!(rt; (book.cells(), book.formulas()), (1, 0));
+    assert!(rt; book.clear(first).is_none());
+    assert_eq!(rt; number_of(book.clear(second).as_ref()), Some(2));
+    assert_eq!(rt; book.next_cell(None), None);
+    Ok(())
+}
+
+#[test]
+fn a_refusal_gives_the_content_back(rt: HostRuntime) -> Result<(), Fail> {
+    let mut book = Book::new(rt.alloc());
+    for row in 1..=100_000 {
+        let formula = parse(rt.alloc(), "=1")?;
+        assert!(rt; book.set(cell(1, row, 1), Content::Formula(formula)).is_ok());
+    }
+    let added = Content::Formula(parse(rt.alloc(), "=A1+A2+A3")?);
+    match book.set(cell(1, 1, 2), added) {
+        Err(SetFault::FormulaLimit(back)) => assert_eq!(rt; terms_of(Some(&back)), Some(3)),
+        _ => panic!(rt; "one formula too many was taken"),
+    }
+    let replaced = Content::Formula(parse(rt.alloc(), "=A2")?);
+    assert!(rt; book.set(cell(1, 1, 1), replaced).is_ok());
+    for row in 100_001..=500_000 {
+        assert!(rt; book.set(cell(1, row, 1), Content::Num(1)).is_ok());
+    }
+    match book.set(cell(1, 1, 2), Content::Num(7)) {
+        Err(SetFault::CellLimit(back)) => assert_eq!(rt; number_of(Some(&back)), Some(7)),
+        _ => panic!(rt; "one cell too many was taken"),
+    }
+    assert!(rt; book.get(cell(1, 1, 2)).is_none());
+    assert_eq!(rt;
+        (book.cells(), book.formulas()),
+        (CELL_LIMIT, FORMULA_LIMIT)
+    );
+    Ok(())
+}
+
+#[test]
+fn functions_go_by_the_bytes_of_their_names(rt: HostRuntime) -> Result<(), Fail> {
+    let plain = Registration {
+        kind: Kind::Plain,
+        arguments: 1,
+        thread_safe: true,
+    };
+    let later = Registration {
+        kind: Kind::Asynchronous { handle_place: 0 },
+        ..plain
+    };
+    let mut book = Book::new(rt.alloc());
+    assert_eq!(rt; book.registration("DOUBLE"), None);
+    for name in ["ECHO", "DOUBLE", "ECHO.2", "ECHO"] {
+        book.register(Name::new(rt.alloc(), name)?, plain)?;
+    }
+    book.register(Name::new(rt.alloc(), "DOUBLE")?, later)?;
+    assert_eq!(rt; book.registration("DOUBLE"), Some(&later));
+    assert_eq!(rt; book.registration("ECHO"), Some(&plain));
+    assert_eq!(rt; book.registration("double"), None);
+    let mut last = None;
+    for name in ["DOUBLE", "ECHO", "ECHO.2"] {
+        let next = book.next_name(last).map(|next| next.as_str());
+        assert_eq!(rt; next, Some(name));
+        last = Some(name);
+    }
+    assert_eq!(rt; book.next_name(last), None);
+    assert_eq!(rt;
+        book.next_name(Some("A")).map(|next| next.as_str()),
+        Some("DOUBLE")
+    );
     Ok(())
 }
 

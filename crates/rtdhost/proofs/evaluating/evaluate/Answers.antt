@@ -5,8 +5,8 @@ use Rattle.rtdhost.proofs.evaluating.evaluate.Goals as goal
 
 pub loop-init : goal.loop-init
 loop-init c others =
-    subst (λ es. AreMeant c.args.sight.book.now c.args.sight.stale.now.keys es × FinishedWithin c.args.sight.book.now c.args.sight.stale.now.keys 0 es) (sym c.new-finished.ensures.empty)
-    (none-meant c.args.sight.book.now c.args.sight.stale.now.keys, finished-first c.args.sight.book.now c.requires.ordered c.args.sight.stale.now.keys c.args.sight.sheet.now.entries others c.requires.stale)
+    subst (λ es. AreMeant c.args.sight.book.now.contents c.args.sight.stale.now.keys es × FinishedWithin c.args.sight.book.now.contents c.args.sight.stale.now.keys 0 es) (sym c.new-finished.ensures.empty)
+    (none-meant c.args.sight.book.now.contents c.args.sight.stale.now.keys, finished-first c.args.sight.book.now.contents c.requires.ordered c.args.sight.stale.now.keys c.args.sight.sheet.now.entries others c.requires.stale)
 
 pub returns-then-not-branch : goal.returns-then-not-branch
 returns-then-not-branch c others = idle-evaluated _ c.requires.ordered _ _ others c.requires.stale _ _ _ c.requires.formulas

@@ -6,7 +6,7 @@ use Rattle.rtdhost.proofs.evaluating.evaluate_pass.Given as goal
 -- the cells so far are done
 abbrev pub invariant-loop-cell : goal.invariant-loop-cell
 invariant-loop-cell l =
-    let book = l.sight.book.now in
+    let book = l.sight.book.now.contents in
     let stale = l.sight.stale.now.keys in
     let sheet = l.sight.sheet.now.entries in
     record {

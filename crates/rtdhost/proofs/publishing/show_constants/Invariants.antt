@@ -8,6 +8,6 @@ use Rattle.rtdhost.proofs.publishing.show_constants.Given as goal
 -- each changed constant that isn't left to show is shown
 abbrev pub invariant-loop-cell : goal.invariant-loop-cell
 invariant-loop-cell l = record {
-  keeps : KeepsMeanings l.book l.fn.sheet.entries l.sheet.entries;
-  shows : (q : Cell) → is_among l.changed.keys q ≡ true → is_among l.cell-iterator q ≡ false → is_formula l.book q ≡ false → ShowsMeaning l.book l.sheet.entries q;
+  keeps : KeepsMeanings l.book.contents l.fn.sheet.entries l.sheet.entries;
+  shows : (q : Cell) → is_among l.changed.keys q ≡ true → is_among l.cell-iterator q ≡ false → is_formula l.book.contents q ≡ false → ShowsMeaning l.book.contents l.sheet.entries q;
 }

@@ -4,7 +4,7 @@ use Rattle.rtdhost.proofs.recalculating.recalculate.Goals as goal
 
 pub returns-clause-shows : goal.returns-clause-shows
 returns-clause-shows c before before_ordered shows kept =
-    let book = c.args.book.now in
+    let book = c.args.book.now.contents in
     let changed = c.args.changed.now.keys in
     let ordered = c.formula_cells.ensures.ordered in
     let all = c.as_slice-cells.ensures.value ∙ c.in_ok-formulas.ensures.cells in
@@ -19,5 +19,5 @@ returns-clause-shows c before before_ordered shows kept =
 pub returns-clause-count : goal.returns-clause-count
 returns-clause-count c =
     c.count_among.ensures
-    ∙ count_stale c.args.book.now c.formula_cells.ensures.ordered c.args.changed.now.keys c.in_ok-stale.stale.keys c.as_slice-cells.result.now
+    ∙ count_stale c.args.book.now.contents c.formula_cells.ensures.ordered c.args.changed.now.keys c.in_ok-stale.stale.keys c.as_slice-cells.result.now
     c.in_ok-stale.ensures (c.as_slice-cells.ensures.value ∙ c.in_ok-formulas.ensures.cells)

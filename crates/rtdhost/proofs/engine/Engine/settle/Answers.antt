@@ -13,7 +13,7 @@ pub returns-clause-step : goal.returns-clause-step
 returns-clause-step c s stands =
     let self = c.args.self.now in
     let running = sym stands.running ∙ c.if-not-self.false in
-    let count = c.in_ok-cells.ensures.count ∙ stale_count_alike self.book self.changed.keys s.changed stands.changed ∙ ap (λ b. stale_count b s.changed) stands.book in
+    let count = c.in_ok-cells.ensures.count ∙ stale_count_alike self.book.contents self.changed.keys s.changed stands.changed ∙ ap (λ b. stale_count b s.changed) stands.book in
     let kept = subst (KeepsOthers self.changed.keys s.completed) (sym stands.book) (kept_alike s.completed s.book self.changed.keys s.changed stands.changed stands.others) in (
       ap (λ n. Done n c.in_ok-cells.cells) stands.round ∙ ap (Done s.round) count ∙ sym (round_reply s Settle running),
       subst (Stands _) (sym (round_after_it s Settle running)) (record {
