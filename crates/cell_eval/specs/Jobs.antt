@@ -1,0 +1,44 @@
+-- What a job says of the world of its formula.
+use Rattle.std.specs.Prelude.{ℕ, Bool, ◌&&◌, nat_eq, List, Option, unwrap_or}
+use Rattle.std.specs.Cmp.Lexicographic.{pointwise}
+use Rattle.std.specs.Map.{lookup}
+use Rattle.std.specs.Str.{bytes_eq}
+use Rattle.addin_types.specs.declared.registrations.Registration.{Registration}
+use Rattle.cell_refs.specs.declared.grid.Cell.{Cell}
+use Rattle.cell_refs.specs.Cell.{same_cell}
+use Rattle.cell_values.specs.declared.topics.Topic.{Topic}
+use Rattle.cell_values.specs.declared.values.Value.{Value}
+use Rattle.cell_values.specs.declared.values.Value.TheVariants as values
+use Rattle.cell_eval.specs.declared.jobs.Job.{Job}
+use Rattle.cell_eval.specs.Evaluation.{World}
+
+-- the value of a cell: that among the inputs, else Blank
+abbrev pub input_of : List (Cell × Value) → Cell → Value
+input_of inputs cell = unwrap_or (lookup (same_cell cell) inputs) values.Blank
+
+-- whether two topics have the same server and the same strings
+abbrev pub same_topic : Topic → Topic → Bool
+same_topic a b = bytes_eq a.server b.server && pointwise bytes_eq a.strings b.strings
+
+-- the value of a topic, where it is among the topics
+abbrev pub topic_value : List (Topic × Value) → Topic → Option Value
+topic_value topics topic = lookup (same_topic topic) topics
+
+-- the accepted value of a site, if there is one
+abbrev pub result_at : List (ℕ × Value) → ℕ → Option Value
+result_at results site = lookup (nat_eq site) results
+
+-- what a name was registered with, if it was
+abbrev pub registration_of : List (List ℕ × Registration) → List ℕ → Option Registration
+registration_of functions name = lookup (bytes_eq name) functions
+
+-- the world of a job's formula, where the added functions answer so
+unfoldable pub world_of : (List ℕ → List Value → Value) → Job → World
+world_of answer job = record {
+  home = job.cell.sheet;
+  input = input_of job.inputs;
+  known = topic_value job.topics;
+  accepted = result_at job.results;
+  registered = registration_of job.functions;
+  answer = answer;
+}

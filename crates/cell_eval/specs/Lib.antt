@@ -1,0 +1,8 @@
+-- What the contracts of this crate cite.
+pub mod Errors
+pub mod Evaluation
+pub mod Inputs
+pub mod Jobs
+pub mod Outcomes
+pub mod Plans
+pub mod Steps

@@ -1,0 +1,18 @@
+//! Evaluates one formula, as far as it comes with what is known.
+#![tactic(auto)]
+
+mod area_values;
+mod evaluation;
+mod halts;
+mod jobs;
+mod lookups;
+mod operations;
+mod outcomes;
+mod plans;
+mod sites;
+#[cfg(test)]
+mod tests;
+mod topics;
+
+pub use jobs::{Functions, Inputs, Job, Outcome, Results, Topics};
+pub use outcomes::eval;

@@ -1,0 +1,122 @@
+ghost use Rattle.std.specs.Prelude.{◌≡◌, IfOk};
+ghost use Rattle.cell_values.specs.Value.{final_of};
+ghost use Rattle.cell_eval.specs.Errors.{is_such};
+ghost use Rattle.cell_eval.specs.Steps.{combined, place_of};
+ghost use Rattle.cell_eval.specs.Evaluation.{is_within, operated, negated_times, takes_area};
+ghost use Rattle.functions.specs.Functions.{arity_of};
+
+use cell_values::{ErrorKind, Memory, Value, add, compare, div, join, mul, negate, sub};
+use formula_parse::Operator;
+use functions::Function;
+use std::alloc::Global;
+
+/// An operator between two values.
+fn operate(alloc: Global, operator: Operator, left: &Value, right: &Value) -> Result<Value, Memory>
+    ensures { IfOk result (λ value. value ≡ operated operator left.now right.now) }
+{
+    match operator {
+        Operator::Compare(op) => Ok(compare(op, left, right)),
+        Operator::Join => join(alloc, left, right),
+        Operator::Add => Ok(add(left, right)),
+        Operator::Subtract => Ok(sub(left, right)),
+        Operator::Multiply => Ok(mul(left, right)),
+        Operator::Divide => Ok(div(left, right)),
+    }
+}
+
+/// What stands left in a chain combined with the operand behind the operator at a place; with no operator there it
+/// stays.
+pub fn combined(
+    alloc: Global,
+    operators: &[Operator],
+    place: usize,
+    left: Value,
+    right: &Value,
+) -> Result<Value, Memory>
+    ensures { IfOk result (λ value. value ≡ combined operators.now place left right.now) }
+{
+    match operators.get(place) {
+        Some(operator) => operate(alloc, *operator, &left, right),
+        None => Ok(left),
+    }
+}
+
+/// A value negated so many times.
+pub fn negated(count: u32, value: Value) -> Value
+    ensures { result ≡ negated_times count value }
+{
+    let mut value = value;
+    for _ in 0..count {
+        value = negate(&value);
+    }
+    value
+}
+
+/// A value, where Blank is made 0.
+pub fn finished(value: Value) -> Value
+    ensures { result ≡ final_of value }
+{
+    match value {
+        Value::Blank => Value::Num(0),
+        other => other,
+    }
+}
+
+/// Which errors a second argument stands in for.
+#[derive(Clone, Copy)]
+pub enum Errors {
+    All,
+    NotAvailable,
+}
+
+/// Whether a value is such an error.
+pub fn is_such(errors: Errors, value: &Value) -> bool
+    ensures { result ≡ is_such errors value.now }
+{
+    match errors {
+        Errors::All => matches!(value, Value::Error(_)),
+        Errors::NotAvailable => matches!(value, Value::Error(ErrorKind::Na)),
+    }
+}
+
+/// Whether a function takes so many arguments.
+pub fn takes_count(function: Function, count: usize) -> bool
+    ensures { result ≡ is_within (arity_of function) count }
+{
+    let (least, most) = function.arity();
+    usize::from(least) <= count && count <= usize::from(most)
+}
+
+/// Whether a function takes the values of the area that its argument at this place refers to.
+pub fn takes_area(function: Function, place: usize) -> bool
+    ensures { result ≡ takes_area function place }
+{
+    match function {
+        Function::Sum
+        | Function::Product
+        | Function::Min
+        | Function::Max
+        | Function::Count
+        | Function::CountA
+        | Function::And
+        | Function::Or => true,
+        Function::Index => place == 0,
+        _ => false,
+    }
+}
+
+/// The place that CHOOSE takes among so many options, or what is wrong with it.
+pub fn place_of(number: Result<i64, ErrorKind>, count: usize) -> Result<usize, ErrorKind>
+    ensures { result ≡ place_of number count }
+{
+    match number {
+        Err(kind) => Err(kind),
+        Ok(n) => {
+            if 0 < n && n as u64 <= count as u64 {
+                Ok((n - 1) as usize)
+            } else {
+                Err(ErrorKind::Value)
+            }
+        }
+    }
+}

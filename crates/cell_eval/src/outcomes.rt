@@ -1,0 +1,25 @@
+ghost use Rattle.std.specs.Prelude.{◌≡◌, IfOk};
+ghost use Rattle.cell_eval.specs.Evaluation.{evaluated};
+ghost use Rattle.cell_eval.specs.Jobs.{world_of};
+ghost use Rattle.cell_eval.specs.Outcomes.{told};
+
+use super::evaluation::part;
+use super::halts::Halt;
+use super::jobs::{Job, Outcome};
+use super::operations::finished;
+use addin_types::AddIns;
+use cell_values::Memory;
+use std::alloc::Global;
+
+/// Evaluates a formula as far as it comes with what the job knows.
+pub fn eval<F: AddIns>(alloc: Global, job: &Job, addins: &F) -> Result<Outcome, Memory>
+    ensures { IfOk result (λ outcome. told outcome ≡ evaluated (world_of F.answer job.now) job.now.tree) }
+{
+    let mut sites = 0;
+    match part(alloc, job, addins, job.tree.root(), &mut sites) {
+        Ok(value) => Ok(Outcome::Done(finished(value))),
+        Err(Halt::Memory) => Err(Memory),
+        Err(Halt::Topic(topic)) => Ok(Outcome::Topic(topic)),
+        Err(Halt::Call { site, name, args }) => Ok(Outcome::Call { site, name, args }),
+    }
+}
