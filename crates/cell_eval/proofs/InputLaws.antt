@@ -44,7 +44,7 @@ reverse_less Less e = absurd (cc)
 reverse_less Equal e = absurd (cc)
 reverse_less Greater e = refl
 
-not_below : (o : Ordering) → is_lt o ≡ true → o ≡ Less
+pub not_below : (o : Ordering) → is_lt o ≡ true → o ≡ Less
 not_below Less e = refl
 not_below Equal e = absurd (cc)
 not_below Greater e = absurd (cc)
@@ -178,3 +178,24 @@ from_point (e ∷ es) c zero within point = sym (ap (λ b. cond b (from_cell es 
 from_point (e ∷ es) c (suc i) within point =
     from_point es c i (omega arith) ((λ k d low high. point.0 (suc k) d (omega arith) (omega arith)), (λ k d low high. point.1 (suc k) d (omega arith) (omega arith)))
     ∙ sym (ap (λ b. cond b (from_cell es c) (e ∷ es)) (point.0 0 e (omega arith) (omega arith)))
+
+-- ---- entries that are found in order
+-- no entry, and one alone
+pub no_entries : (es : List (Cell × Value)) → es ≡ [] → IsStrictlySortedBy cell_cmp (keys_of es)
+unfolding IsStrictlySortedBy
+no_entries es none = subst (λ (xs : List (Cell × Value)). IsStrictlySortedBy cell_cmp (keys_of xs)) (sym none) tt
+
+pub one_entry : (es : List (Cell × Value)) (e : Cell × Value) (rest : List (Cell × Value)) → es ≡ e ∷ rest → rest ≡ [] → IsStrictlySortedBy cell_cmp (keys_of es)
+unfolding IsStrictlySortedBy
+one_entry es e rest is none = subst (λ (xs : List (Cell × Value)). IsStrictlySortedBy cell_cmp (keys_of xs)) (sym (is ∙ ap (λ (xs : List (Cell × Value)). e ∷ xs) none)) (tt, tt)
+
+-- an entry in front of entries in order of which the first is above it
+front_entry : (e f : Cell × Value) (rest : List (Cell × Value)) → cell_cmp e.0 f.0 ≡ Less → IsStrictlySortedBy cell_cmp (keys_of (f ∷ rest)) → IsStrictlySortedBy cell_cmp (keys_of (e ∷ f ∷ rest))
+unfolding IsStrictlySortedBy
+front_entry e f rest below h = ((below, below_later rest e.0 f.0 below h.0), h)
+
+pub more_entries : (es : List (Cell × Value)) (e : Cell × Value) (others : List (Cell × Value)) (f : Cell × Value) (rest : List (Cell × Value)) → es ≡ e ∷ others → others ≡ f ∷ rest → cell_cmp e.0 f.0 ≡ Less
+    → IsStrictlySortedBy cell_cmp (keys_of others) → IsStrictlySortedBy cell_cmp (keys_of es)
+more_entries es e others f rest is split below h =
+    subst (λ (xs : List (Cell × Value)). IsStrictlySortedBy cell_cmp (keys_of xs)) (sym (is ∙ ap (λ (xs : List (Cell × Value)). e ∷ xs) split))
+    (front_entry e f rest below (subst (λ (xs : List (Cell × Value)). IsStrictlySortedBy cell_cmp (keys_of xs)) split h))

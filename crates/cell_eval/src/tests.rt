@@ -21,7 +21,11 @@ fn do_ascend(entries: &[(Cell, Value)]) -> bool
     let Some((second, _)) = others.split_first() else {
         return true;
     };
-    first.0 < second.0 && do_ascend(others)
+    if first.0 < second.0 {
+        do_ascend(others)
+    } else {
+        false
+    }
 }
 
 /// The inputs of cells by sheet, row, column and value word.
@@ -308,22 +312,25 @@ fn sites_are_counted_by_the_places_of_names(rt: HostRuntime) -> Result<(), Fail>
     Ok(())
 }
 
+/// The outcome of a formula on the first sheet where these topics are known.
+fn resumed(alloc: Global, text: &str, topics: &[(&str, &str, &str)]) -> Result<String, Fail> {
+    let known = Known {
+        inputs: &CELLS,
+        topics,
+        results: &[],
+    };
+    outcome_of(alloc, 1, text, known)
+}
+
 #[test]
 fn a_resumed_job_ends_as_one_that_knows_all(rt: HostRuntime) -> Result<(), Fail> {
     let alloc = rt.alloc();
     let text = "=RTD(\"S\",\"\",\"a\")+RTD(\"S\",\"\",\"b\")+RTD(\"S\",\"\",\"a\")";
-    let mut known = Known {
-        inputs: &CELLS,
-        topics: &[],
-        results: &[],
-    };
-    let words = outcome_of(alloc, 1, text, known)?;
+    let words = resumed(alloc, text, &[])?;
     assert_eq!(rt; words.as_str(), "topic S a");
-    known.topics = &[("S", "a", "5")];
-    let words = outcome_of(alloc, 1, text, known)?;
+    let words = resumed(alloc, text, &[("S", "a", "5")])?;
     assert_eq!(rt; words.as_str(), "topic S b");
-    known.topics = &[("S", "a", "5"), ("S", "b", "6")];
-    let words = outcome_of(alloc, 1, text, known)?;
+    let words = resumed(alloc, text, &[("S", "a", "5"), ("S", "b", "6")])?;
     assert_eq!(rt; words.as_str(), "16");
     Ok(())
 }
