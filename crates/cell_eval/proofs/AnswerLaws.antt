@@ -16,7 +16,7 @@ use Rattle.formula_parse.specs.declared.nodes.Node.{Node}
 use Rattle.formula_parse.specs.declared.nodes.Node.TheVariants as nodes
 use Rattle.formula_parse.specs.declared.operators.Operator.{Operator}
 use Rattle.formula_parse.specs.Tree.{site_count}
-use Rattle.cell_eval.specs.Evaluation.{World, Part, Answer, Val, Argument, part_of, part_step, placed, answers_of, failed, final_answer, then_with, negated_times}
+use Rattle.workbook.specs.Evaluation.{World, Part, Answer, Val, Argument, part_of, part_step, placed, answers_of, failed, final_answer, then_with, negated_times}
 
 -- the answer of a number
 pub answer_number : (world : World) (n : ℤ) (before : ℕ) → answer_at world (nodes.Number n) before ≡ Val (values.Num n)

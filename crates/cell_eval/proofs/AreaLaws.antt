@@ -14,7 +14,7 @@ use Rattle.formula_parse.specs.declared.nodes.Node.{Node}
 use Rattle.formula_parse.specs.declared.nodes.Node.TheVariants as nodes
 use Rattle.formula_parse.specs.declared.operators.Operator.{Operator}
 use Rattle.formula_parse.specs.Tree.{areas_named, areas_step}
-use Rattle.cell_eval.specs.Evaluation.{World, Part, part_of, part_step}
+use Rattle.workbook.specs.Evaluation.{World, Part, part_of, part_step}
 
 -- a reference refers to its cell
 pub area_reference : (world : World) (home : ℕ) (r : RefText) (node : Node) → world.home ≡ home → node ≡ nodes.Reference r → area_at world node ≡ Some (area_of r r home)

@@ -25,7 +25,7 @@ use Rattle.functions.specs.Applied.{applied}
 use Rattle.functions.specs.Functions.{function_named, arity_of}
 use Rattle.functions.specs.Inputs.{all_ok}
 use Rattle.functions.specs.Kinds.{is_error, is_na}
-use Rattle.cell_eval.specs.Evaluation.{World, Answer, Val, Argument, failed, with_all, with_inputs, call_answer, function_answer, rtd_answer, added_answer, topic_answer, kind_answer, is_within, own_site}
+use Rattle.workbook.specs.Evaluation.{World, Answer, Val, Argument, failed, with_all, with_inputs, call_answer, function_answer, rtd_answer, added_answer, topic_answer, kind_answer, is_within, own_site}
 
 -- ---- calls of functions
 -- by whether the count of arguments is right

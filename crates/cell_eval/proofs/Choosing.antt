@@ -15,7 +15,7 @@ use Rattle.cell_eval.proofs.AnswerLaws.{arguments_none, arguments_first, argumen
 use Rattle.cell_eval.proofs.Halting.{Halts-same, Halts-then}
 use Rattle.formula_parse.specs.declared.nodes.Node.{Node}
 use Rattle.formula_parse.specs.Tree.{site_count}
-use Rattle.cell_eval.specs.Evaluation.{World, Answer, Val, Argument, failed, then_with, branch, if_answer, unless_answer, choose_answer, chosen, chosen_at}
+use Rattle.workbook.specs.Evaluation.{World, Answer, Val, Argument, failed, then_with, branch, if_answer, unless_answer, choose_answer, chosen, chosen_at}
 
 -- the first two arguments
 arguments_two : (world : World) (a b : Node) (rest : List Node) (before : ℕ)

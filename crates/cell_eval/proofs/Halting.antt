@@ -6,7 +6,7 @@ use Rattle.cell_eval.specs.declared.halts.Halt.{Halt}
 use Rattle.cell_eval.specs.declared.halts.Halt.TheVariants as halts
 use Rattle.cell_eval.specs.Steps.{Halts, ComesTo, GiveAll, HaltAll}
 use Rattle.formula_parse.specs.declared.operators.Operator.{Operator}
-use Rattle.cell_eval.specs.Evaluation.{Answer, Val, Asks, Needs, then_with, with_all, final_answer, operated, operated_on, chain_value}
+use Rattle.workbook.specs.Evaluation.{Answer, Val, Asks, Needs, then_with, with_all, final_answer, operated, operated_on, chain_value}
 
 -- what halts, halts whatever was to follow
 pub Halts-then : (a : Answer) (halt : Halt) (next : Value → Answer) → Halts a halt → Halts (then_with a next) halt

@@ -6,7 +6,7 @@ use Rattle.std.proofs.lemmas.List.{append_assoc, drop_more, take_more, map-appen
 use Rattle.cell_values.specs.declared.values.Value.{Value}
 use Rattle.cell_values.specs.declared.values.Value.TheVariants as values
 use Rattle.cell_values.specs.Value.{negate_of, final_of}
-use Rattle.cell_eval.specs.Evaluation.{Answer, negated_times}
+use Rattle.workbook.specs.Evaluation.{Answer, negated_times}
 
 -- a turn of a negation
 pub one_turn : (count turns : ℕ) (v : Value) → turns < count → negated_times (count - turns) v ≡ negated_times (count - (turns + 1)) (negate_of v)

@@ -8,7 +8,7 @@ use Rattle.formula_parse.specs.declared.nodes.Node.{Node}
 use Rattle.formula_parse.specs.declared.nodes.Node.TheVariants as nodes
 use Rattle.formula_parse.specs.declared.operators.Operator.{Operator}
 use Rattle.formula_parse.specs.Tree.{calls_step, chained, is_built_in, site_count, sites_named}
-use Rattle.cell_eval.specs.Evaluation.{World, Part, part_of, part_step, own_site, sites_in}
+use Rattle.workbook.specs.Evaluation.{World, Part, part_of, part_step, own_site, sites_in}
 
 -- the sites of several parts are the sum of theirs
 pub sites_chained : (ns : List Node) → length (chained (map sites_named ns)) ≡ sites_among ns

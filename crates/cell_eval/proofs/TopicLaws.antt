@@ -9,7 +9,7 @@ use Rattle.cell_values.specs.declared.values.Value.{Value}
 use Rattle.cell_values.specs.Name.{is_name}
 use Rattle.cell_eval.proofs.OperationLaws.{third}
 use Rattle.functions.specs.Inputs.{all_ok, with_first}
-use Rattle.cell_eval.specs.Evaluation.{World, failed, known_answer, topic_answer, LONGEST_STRING}
+use Rattle.workbook.specs.Evaluation.{World, failed, known_answer, topic_answer, LONGEST_STRING}
 
 -- a name, no machine and short strings: the topic's value
 pub named : (world : World) (name machine : List ℕ) (strings : List (List ℕ)) (server : List ℕ) (texts : List (List ℕ)) (o : Option Value)

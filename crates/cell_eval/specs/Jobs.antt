@@ -10,7 +10,7 @@ use Rattle.cell_values.specs.declared.topics.Topic.{Topic}
 use Rattle.cell_values.specs.declared.values.Value.{Value}
 use Rattle.cell_values.specs.declared.values.Value.TheVariants as values
 use Rattle.cell_eval.specs.declared.jobs.Job.{Job}
-use Rattle.cell_eval.specs.Evaluation.{World}
+use Rattle.workbook.specs.Evaluation.{World}
 
 -- the value of a cell: that among the inputs, else Blank
 abbrev pub input_of : List (Cell × Value) → Cell → Value

@@ -1,6 +1,5 @@
 -- What the contracts of this crate cite.
 pub mod Errors
-pub mod Evaluation
 pub mod Inputs
 pub mod Jobs
 pub mod Outcomes

@@ -1,7 +1,7 @@
 -- What the outcomes of an evaluation tell.
 use Rattle.cell_eval.specs.declared.jobs.Outcome.{Outcome}
 use Rattle.cell_eval.specs.declared.jobs.Outcome.TheVariants as outcomes
-use Rattle.cell_eval.specs.Evaluation.{Answer, Val, Asks, Needs}
+use Rattle.workbook.specs.Evaluation.{Answer, Val, Asks, Needs}
 
 -- the answer that an outcome tells
 abbrev pub told : Outcome → Answer

@@ -14,7 +14,7 @@ use Rattle.formula_parse.specs.Tree.{areas_named, site_count}
 use Rattle.functions.specs.declared.arguments.Arg.{Arg}
 use Rattle.functions.specs.declared.functions.Function.{Function}
 use Rattle.functions.specs.Functions.{function_named}
-use Rattle.cell_eval.specs.Evaluation.{World, Answer, Val, Asks, Needs, Argument, part_of, placed, answers_of, with_all, with_input, with_inputs, takes_area, chain_value, operated, call_answer, if_answer, unless_answer, choose_answer, own_site}
+use Rattle.workbook.specs.Evaluation.{World, Answer, Val, Asks, Needs, Argument, part_of, placed, answers_of, with_all, with_input, with_inputs, takes_area, chain_value, operated, call_answer, if_answer, unless_answer, choose_answer, own_site}
 
 -- the answer of a part of a tree behind so many sites
 unfoldable pub answer_at : World → Node → ℕ → Answer

@@ -4,7 +4,7 @@ ghost use Rattle.std.specs.Map.{keys_of};
 ghost use Rattle.std.specs.Ordering.{is_lt};
 ghost use Rattle.cell_refs.specs.Area.{cells_of, size_of};
 ghost use Rattle.cell_refs.specs.Cell.{cell_cmp};
-ghost use Rattle.cell_eval.specs.Evaluation.{World, area_input, takes_area};
+ghost use Rattle.workbook.specs.Evaluation.{World, area_input, takes_area};
 ghost use Rattle.functions.specs.Inputs.{IsInput};
 ghost use Rattle.formula_parse.specs.Tree.{site_count};
 ghost use Rattle.cell_eval.specs.Jobs.{input_of};

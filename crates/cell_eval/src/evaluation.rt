@@ -1,7 +1,7 @@
 ghost use Rattle.std.specs.Prelude.{◌≡◌, ◌+◌, ◌≤◌, All, length, IfOk, OnOk, MatchResult};
 ghost use Rattle.formula_parse.specs.Tree.{site_count};
 ghost use Rattle.functions.specs.Inputs.{IsInput};
-ghost use Rattle.cell_eval.specs.Evaluation.{own_site};
+ghost use Rattle.workbook.specs.Evaluation.{own_site};
 ghost use Rattle.cell_eval.specs.Errors.{is_such};
 ghost use Rattle.cell_eval.specs.Jobs.{world_of};
 ghost use Rattle.cell_eval.specs.Steps.{NamesSmallAreas, ComesTo, GiveAll, HaltAll, IsTaken, HaltsTaken, AreTaken, HaltTaken, answer_at, answers_at, argument_at, arguments_at, chain_at, call_at, built_in_at, if_at, unless_at, choose_at, sites_among};

@@ -2,7 +2,7 @@ ghost use Rattle.std.specs.Prelude.{◌≡◌, IfOk};
 ghost use Rattle.cell_values.specs.Value.{final_of};
 ghost use Rattle.cell_eval.specs.Errors.{is_such};
 ghost use Rattle.cell_eval.specs.Steps.{combined, place_of};
-ghost use Rattle.cell_eval.specs.Evaluation.{is_within, operated, negated_times, takes_area};
+ghost use Rattle.workbook.specs.Evaluation.{is_within, operated, negated_times, takes_area};
 ghost use Rattle.functions.specs.Functions.{arity_of};
 
 use cell_values::{ErrorKind, Memory, Value, add, compare, div, join, mul, negate, sub};

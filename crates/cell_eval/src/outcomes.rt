@@ -1,5 +1,5 @@
 ghost use Rattle.std.specs.Prelude.{◌≡◌, IfOk};
-ghost use Rattle.cell_eval.specs.Evaluation.{evaluated};
+ghost use Rattle.workbook.specs.Evaluation.{evaluated};
 ghost use Rattle.cell_eval.specs.Jobs.{world_of};
 ghost use Rattle.cell_eval.specs.Outcomes.{told};
 

@@ -1,6 +1,6 @@
 ghost use Rattle.std.specs.Prelude.{◌≡◌, map};
 ghost use Rattle.cell_values.specs.Value.{final_of};
-ghost use Rattle.cell_eval.specs.Evaluation.{kind_answer};
+ghost use Rattle.workbook.specs.Evaluation.{kind_answer};
 ghost use Rattle.cell_eval.specs.Jobs.{world_of};
 ghost use Rattle.cell_eval.specs.Plans.{plan_of, planned_value};
 ghost use Rattle.cell_eval.specs.Steps.{ComesTo};

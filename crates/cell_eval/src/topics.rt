@@ -4,7 +4,7 @@ ghost use Rattle.std.specs.Str.{chars};
 ghost use Rattle.cell_values.specs.declared.values.Value.{Value as OneValue};
 ghost use Rattle.cell_values.specs.Coercion.{text_of};
 ghost use Rattle.functions.specs.Inputs.{all_ok};
-ghost use Rattle.cell_eval.specs.Evaluation.{topic_answer, LONGEST_STRING};
+ghost use Rattle.workbook.specs.Evaluation.{topic_answer, LONGEST_STRING};
 ghost use Rattle.cell_eval.specs.Jobs.{world_of};
 ghost use Rattle.cell_eval.specs.Steps.{ComesTo};
 

@@ -6,5 +6,6 @@ pub mod FunctionLaws
 pub mod Settling
 pub mod Walking
 pub mod Reaching
+pub mod Evaluations
 pub mod Meanings
 pub mod Steps

@@ -1,103 +1,110 @@
--- What cells mean: the meaning of a formula cell is its formula's value over the meanings of the cells that it
--- names, and a cell from which no changed cell is reached keeps its meaning.
+-- What cells mean: the meaning of a cell that isn't circular is that of its content over the meanings of the cells
+-- that it names, and a cell from which no changed cell is reached keeps its meaning.
 use Rattle.std.proofs.Common.{◌≡◌, ℕ, zero, suc, ◌+◌, Bool, true, false, cond, ◌||◌, ◌&&◌, List, [], ◌∷◌, Option, Some, None, refl, ap, sym, subst, ◌∙◌, arith}
-use Rattle.std.specs.List.{list_any, AllByRecursion, fold}
+use Rattle.std.specs.List.{list_any, AllByRecursion}
 use Rattle.cell_refs.specs.declared.grid.Cell.{Cell}
-use Rattle.cell_refs.specs.RefText.{cell_at}
 use Rattle.cell_values.specs.declared.values.Value.{Value}
 use Rattle.cell_values.specs.declared.values.Value.TheVariants.{Blank}
-use Rattle.cell_values.specs.Value.{add_of, final_of}
-use Rattle.sum_formulas.specs.declared.trees.Term.{Term}
-use Rattle.sum_formulas.specs.declared.trees.Term.TheVariants.{Number, Reference}
-use Rattle.sum_formulas.specs.Tree.{precedents}
+use Rattle.formula_parse.specs.declared.nodes.Node.{Node}
+use Rattle.formula_parse.specs.Tree.{precedents}
 use Rattle.workbook.specs.declared.contents.Content.{Content}
 use Rattle.workbook.specs.declared.contents.Content.TheVariants as contents
 use Rattle.workbook.specs.Book.{IsInOrder, content_at, has_formula, named_by, is_formula, named_cells, formula_count}
 use Rattle.workbook.specs.Circular.{walks_on, is_circular}
-use Rattle.workbook.specs.Evaluation.{term_value, evaluated}
-use Rattle.workbook.specs.Meaning.{Val, Circ, content_value, value_within, meaning}
+use Rattle.workbook.specs.Evaluation.{evaluated}
+use Rattle.workbook.specs.Meaning.{Setting, Meaning, Val, Circ, Open, world_at, meant, value_in, is_open, content_meaning, meaning_within, meaning}
 use Rattle.workbook.specs.Stale.{is_among, reaches, is_stale}
-use Rattle.workbook.proofs.Walking.{walks-shorter, circular-walks}
+use Rattle.workbook.proofs.Evaluations.{evaluated_alike}
+use Rattle.workbook.proofs.Walking.{walks-shorter, circular-walks, circular-names}
 use Rattle.workbook.proofs.Reaching.{or_false, reaches-enough, reaches-constant}
 
--- the sum of terms depends on the inputs of the named cells alone
-fold_alike : (home : ℕ) (f g : Cell → Value) (terms : List Term) → AllByRecursion (λ d. f d ≡ g d) (precedents terms home) → (sum : Value)
-    → fold (λ s t. add_of s (term_value home f t)) sum terms ≡ fold (λ s t. add_of s (term_value home g t)) sum terms
-fold_alike home f g [] each sum = refl
-fold_alike home f g (Number n ∷ terms) each sum = fold_alike home f g terms each (add_of sum (term_value home f (Number n)))
-fold_alike home f g (Reference r ∷ terms) each sum =
-    fold_alike home f g terms each.1 (add_of sum (f (cell_at r home)))
-    ∙ ap (λ v. fold (λ s t. add_of s (term_value home g t)) (add_of sum v) terms) each.0
+-- two tests that agree on each of a list
+any_each : {X : Type 0} (p q : X → Bool) (xs : List X) → AllByRecursion (λ x. p x ≡ q x) xs → list_any p xs ≡ list_any q xs
+any_each p q [] each = refl
+any_each p q (x ∷ xs) each = ap (λ b. b || list_any p xs) each.0 ∙ ap (λ b. q x || b) (any_each p q xs each.1)
 
-evaluated_alike : (terms : List Term) (home : ℕ) (f g : Cell → Value) → AllByRecursion (λ d. f d ≡ g d) (precedents terms home) → evaluated terms home f ≡ evaluated terms home g
-evaluated_alike [] home f g each = refl
-evaluated_alike (Number n ∷ terms) home f g each = ap final_of (fold_alike home f g terms each (term_value home f (Number n)))
-evaluated_alike (Reference r ∷ terms) home f g each =
-    ap final_of (fold_alike home f g terms each.1 (f (cell_at r home)) ∙ ap (λ v. fold (λ s t. add_of s (term_value home g t)) v terms) each.0)
+-- what is said of each of a list in one form, in another
+each_leads : {X : Type 0} (P Q : X → Type 0) → ((x : X) → P x → Q x) → (xs : List X) → AllByRecursion P xs → AllByRecursion Q xs
+each_leads P Q leads [] each = tt
+each_leads P Q leads (x ∷ xs) each = (leads x each.0, each_leads P Q leads xs each.1)
 
-pub content_alike : (content : Option Content) (home : ℕ) (f g : Cell → Value) → AllByRecursion (λ d. f d ≡ g d) (named_by content home) → content_value content home f ≡ content_value content home g
-content_alike None home f g each = refl
-content_alike (Some (contents.Num n)) home f g each = refl
-content_alike (Some (contents.Text t)) home f g each = refl
-content_alike (Some (contents.Bool b)) home f g each = refl
-content_alike (Some (contents.Error e)) home f g each = refl
-content_alike (Some (contents.Formula tree)) home f g each = evaluated_alike tree home f g each
+-- the meaning of a formula depends on the meanings of the named cells alone
+formula_alike : (setting : Setting) (cell : Cell) (f g : Cell → Meaning) (tree : Node) → AllByRecursion (λ d. f d ≡ g d) (precedents tree cell.sheet)
+    → content_meaning setting cell f (Some (contents.Formula tree)) ≡ content_meaning setting cell g (Some (contents.Formula tree))
+formula_alike setting cell f g tree each =
+    let waits = any_each (λ d. is_open (f d)) (λ d. is_open (g d)) (precedents tree cell.sheet) (each_leads _ _ (λ d h. ap is_open h) (precedents tree cell.sheet) each) in
+    let inputs = evaluated_alike (world_at setting cell (λ d. value_in (f d))) (λ d. value_in (f d)) (λ d. value_in (g d)) tree (each_leads _ _ (λ d h. ap value_in h) (precedents tree cell.sheet) each) in
+    ap (λ b. cond b Open (meant (evaluated (world_at setting cell (λ d. value_in (f d))) tree))) waits
+    ∙ ap (λ a. cond (list_any (λ d. is_open (g d)) (precedents tree cell.sheet)) Open (meant a)) inputs
 
-constant_alike : (content : Option Content) (home : ℕ) (f g : Cell → Value) → has_formula content ≡ false → content_value content home f ≡ content_value content home g
-constant_alike None home f g h = refl
-constant_alike (Some (contents.Num n)) home f g h = refl
-constant_alike (Some (contents.Text t)) home f g h = refl
-constant_alike (Some (contents.Bool b)) home f g h = refl
-constant_alike (Some (contents.Error e)) home f g h = refl
-constant_alike (Some (contents.Formula tree)) home f g h = cc
+pub content_alike : (setting : Setting) (cell : Cell) (content : Option Content) (f g : Cell → Meaning) → AllByRecursion (λ d. f d ≡ g d) (named_by content cell.sheet)
+    → content_meaning setting cell f content ≡ content_meaning setting cell g content
+content_alike setting cell None f g each = refl
+content_alike setting cell (Some (contents.Num n)) f g each = refl
+content_alike setting cell (Some (contents.Text t)) f g each = refl
+content_alike setting cell (Some (contents.Bool b)) f g each = refl
+content_alike setting cell (Some (contents.Error e)) f g each = refl
+content_alike setting cell (Some (contents.Formula tree)) f g each = formula_alike setting cell f g tree each
+
+pub constant_alike : (setting : Setting) (cell : Cell) (content : Option Content) (f g : Cell → Meaning) → has_formula content ≡ false → content_meaning setting cell f content ≡ content_meaning setting cell g content
+constant_alike setting cell None f g h = refl
+constant_alike setting cell (Some (contents.Num n)) f g h = refl
+constant_alike setting cell (Some (contents.Text t)) f g h = refl
+constant_alike setting cell (Some (contents.Bool b)) f g h = refl
+constant_alike setting cell (Some (contents.Error e)) f g h = refl
+constant_alike setting cell (Some (contents.Formula tree)) f g h = cc
 
 -- no element passes
 pub none_where : {X : Type 0} (p : X → Bool) (Q : X → Type 0) → ((x : X) → p x ≡ false → Q x) → (xs : List X) → list_any p xs ≡ false → AllByRecursion Q xs
 none_where p Q leads [] h = tt
 none_where p Q leads (x ∷ xs) h = let both = or_false (p x) (list_any p xs) h in (leads x both.0, none_where p Q leads xs both.1)
 
--- a cell without a walk of n steps has its value within n steps
-pub value-settles : (book : List (Cell × Content)) (n : ℕ) (c : Cell) → walks_on book n c ≡ false → value_within book (suc n) c ≡ value_within book n c
-value-settles book zero c h = constant_alike (content_at book c) c.sheet _ _ h
-value-settles book (suc n) c h = content_alike (content_at book c) c.sheet _ _ (none_where (walks_on book n) _ (value-settles book n) (named_cells book c) h)
-
 false_falls : (a b : Bool) → (b ≡ true → a ≡ true) → a ≡ false → b ≡ false
 false_falls a true leads h = sym (leads refl) ∙ h
 false_falls a false leads h = refl
 
-value-stays : (book : List (Cell × Content)) (n k : ℕ) (c : Cell) → walks_on book n c ≡ false → (walks_on book (k + n) c ≡ false) × (value_within book (k + n) c ≡ value_within book n c)
-value-stays book n zero c h = subst (λ m. (walks_on book m c ≡ false) × (value_within book m c ≡ value_within book n c)) zeroed (h, refl)
-  where
-    zeroed : n ≡ 0 + n
-    zeroed = omega arith
-value-stays book n (suc k) c h =
-    let before = value-stays book n k c h in
-    subst (λ m. (walks_on book m c ≡ false) × (value_within book m c ≡ value_within book n c)) stepped
-    (false_falls _ _ (walks-shorter book (k + n) c) before.0, value-settles book (k + n) c before.0 ∙ before.1)
-  where
-    stepped : suc (k + n) ≡ suc k + n
-    stepped = omega arith
+module _ (setting : Setting) (book : List (Cell × Content)) where
+  -- a cell without a walk of n steps has its meaning within n steps
+  pub meaning-settles : (n : ℕ) (c : Cell) → walks_on book n c ≡ false → meaning_within setting book (suc n) c ≡ meaning_within setting book n c
+  meaning-settles zero c h = constant_alike setting c (content_at book c) (meaning_within setting book zero) (λ d. Val Blank) h
+  meaning-settles (suc n) c h = content_alike setting c (content_at book c) (meaning_within setting book (suc n)) (meaning_within setting book n) (none_where (walks_on book n) _ (meaning-settles n) (named_cells book c) h)
 
--- two numbers of steps without such walks give one value
-values-agree : (book : List (Cell × Content)) (m n : ℕ) (c : Cell) → walks_on book m c ≡ false → walks_on book n c ≡ false → value_within book m c ≡ value_within book n c
-values-agree book m n c no_m no_n =
-    sym ((value-stays book m n c no_m).1) ∙ ap (λ k. value_within book k c) swapped ∙ (value-stays book n m c no_n).1
-  where
-    swapped : n + m ≡ m + n
-    swapped = omega arith
+  meaning-stays : (n k : ℕ) (c : Cell) → walks_on book n c ≡ false → (walks_on book (k + n) c ≡ false) × (meaning_within setting book (k + n) c ≡ meaning_within setting book n c)
+  meaning-stays n zero c h = subst (λ m. (walks_on book m c ≡ false) × (meaning_within setting book m c ≡ meaning_within setting book n c)) zeroed (h, refl)
+    where
+      zeroed : n ≡ 0 + n
+      zeroed = omega arith
+  meaning-stays n (suc k) c h =
+      let before = meaning-stays n k c h in
+      subst (λ m. (walks_on book m c ≡ false) × (meaning_within setting book m c ≡ meaning_within setting book n c)) stepped
+      (false_falls _ _ (walks-shorter book (k + n) c) before.0, meaning-settles (k + n) c before.0 ∙ before.1)
+    where
+      stepped : suc (k + n) ≡ suc k + n
+      stepped = omega arith
 
--- the value of a cell that is not circular is that of its content over the values of the cells that it names
-pub value-unfolds : (book : List (Cell × Content)) (c : Cell) → is_circular book c ≡ false
-    → value_within book (formula_count book) c ≡ content_value (content_at book c) c.sheet (value_within book (formula_count book))
-value-unfolds book c h = sym (value-settles book (formula_count book) c h)
+  -- two numbers of steps without such walks give one meaning
+  meanings-agree : (m n : ℕ) (c : Cell) → walks_on book m c ≡ false → walks_on book n c ≡ false → meaning_within setting book m c ≡ meaning_within setting book n c
+  meanings-agree m n c no_m no_n =
+      sym ((meaning-stays m n c no_m).1) ∙ ap (λ k. meaning_within setting book k c) swapped ∙ (meaning-stays n m c no_n).1
+    where
+      swapped : n + m ≡ m + n
+      swapped = omega arith
 
-pub shows_circle : (book : List (Cell × Content)) (c : Cell) → is_circular book c ≡ true → meaning book c ≡ Circ
-shows_circle book c h = ap (λ b. cond b Circ (Val (value_within book (formula_count book) c))) h
+  pub shows_circle : (c : Cell) → is_circular book c ≡ true → meaning setting book c ≡ Circ
+  shows_circle c h = ap (λ b. cond b Circ (meaning_within setting book (formula_count book) c)) h
 
-pub shows_value : (book : List (Cell × Content)) (c : Cell) → is_circular book c ≡ false → meaning book c ≡ Val (value_within book (formula_count book) c)
-shows_value book c h = ap (λ b. cond b Circ (Val (value_within book (formula_count book) c))) h
+  pub shows_within : (c : Cell) → is_circular book c ≡ false → meaning setting book c ≡ meaning_within setting book (formula_count book) c
+  shows_within c h = ap (λ b. cond b Circ (meaning_within setting book (formula_count book) c)) h
 
-module _ (before now : List (Cell × Content)) (changed : List Cell) (before_ordered : IsInOrder before) (now_ordered : IsInOrder now) (kept : (c : Cell) → is_among changed c ≡ false → content_at before c ≡ content_at now c) where
+  -- the meaning of a cell that isn't circular is that of its content over the meanings of the cells that it names
+  pub meaning-unfolds : IsInOrder book → (c : Cell) → is_circular book c ≡ false → meaning setting book c ≡ content_meaning setting c (meaning setting book) (content_at book c)
+  meaning-unfolds ordered c h =
+      shows_within c h
+      ∙ sym (meaning-settles (formula_count book) c h)
+      ∙ sym (content_alike setting c (content_at book c) (meaning setting book) (meaning_within setting book (formula_count book))
+      (none_where (is_circular book) _ shows_within (named_cells book c) (sym (circular-names book ordered c) ∙ h)))
+
+module _ (setting : Setting) (before now : List (Cell × Content)) (changed : List Cell) (before_ordered : IsInOrder before) (now_ordered : IsInOrder now) (kept : (c : Cell) → is_among changed c ≡ false → content_at before c ≡ content_at now c) where
   -- no changed cell is reached
   abbrev clean : Cell → Type 0
   clean c = reaches now changed (formula_count now) c ≡ false
@@ -120,20 +127,20 @@ module _ (before now : List (Cell × Content)) (changed : List Cell) (before_ord
       ap (list_any (walks_on before n)) (named_alike c h)
       ∙ any_where (walks_on before n) (walks_on now n) (walks_alike n) (named_cells now c) (clean-parts c h).1
 
-  values_alike : (n : ℕ) (c : Cell) → clean c → value_within before n c ≡ value_within now n c
-  values_alike zero c h = ap (λ o. content_value o c.sheet (λ _. Blank)) (kept c (clean-parts c h).0)
-  values_alike (suc n) c h =
-      ap (λ o. content_value o c.sheet (value_within before n)) (kept c (clean-parts c h).0)
-      ∙ content_alike (content_at now c) c.sheet _ _ (none_where _ _ (values_alike n) (named_cells now c) (clean-parts c h).1)
+  meanings_alike : (n : ℕ) (c : Cell) → clean c → meaning_within setting before n c ≡ meaning_within setting now n c
+  meanings_alike zero c h = ap (content_meaning setting c (λ _. Val Blank)) (kept c (clean-parts c h).0)
+  meanings_alike (suc n) c h =
+      ap (content_meaning setting c (meaning_within setting before n)) (kept c (clean-parts c h).0)
+      ∙ content_alike setting c (content_at now c) (meaning_within setting before n) (meaning_within setting now n) (none_where _ _ (meanings_alike n) (named_cells now c) (clean-parts c h).1)
 
   -- a cell from which no changed cell is reached keeps its meaning
-  pub meaning-kept : (c : Cell) → reaches now changed (formula_count now) c ≡ false → meaning before c ≡ meaning now c
-  meaning-kept c h = elim (is_circular before c) as (λ b. is_circular before c ≡ b → meaning before c ≡ meaning now c) [
-    | true ↦ λ e. shows_circle before c e ∙ sym (shows_circle now c (sym (walks_alike (formula_count now) c h) ∙ circular-walks before before_ordered (formula_count now) c e))
+  pub meaning-kept : (c : Cell) → reaches now changed (formula_count now) c ≡ false → meaning setting before c ≡ meaning setting now c
+  meaning-kept c h = elim (is_circular before c) as (λ b. is_circular before c ≡ b → meaning setting before c ≡ meaning setting now c) [
+    | true ↦ λ e. shows_circle setting before c e ∙ sym (shows_circle setting now c (sym (walks_alike (formula_count now) c h) ∙ circular-walks before before_ordered (formula_count now) c e))
     | false ↦ λ e.
         let f = false_falls _ _ (λ t. walks_alike (formula_count before) c h ∙ circular-walks now now_ordered (formula_count before) c t) e in
-        let same = values-agree before (formula_count before) (formula_count now) c e (walks_alike (formula_count now) c h ∙ f) ∙ values_alike (formula_count now) c h in
-        shows_value before c e ∙ ap Val same ∙ sym (shows_value now c f)
+        let same = meanings-agree setting before (formula_count before) (formula_count now) c e (walks_alike (formula_count now) c h ∙ f) ∙ meanings_alike (formula_count now) c h in
+        shows_within setting before c e ∙ same ∙ sym (shows_within setting now c f)
   ] refl
 
   not_both : (formula reached : Bool) → (formula && reached) ≡ false → formula ≡ true → reached ≡ false
@@ -141,7 +148,7 @@ module _ (before now : List (Cell × Content)) (changed : List Cell) (before_ord
   not_both false reached h e = cc
 
   -- the same of a cell that is neither changed nor stale
-  pub meaning-kept_clean : (c : Cell) → is_among changed c ≡ false → is_stale now changed c ≡ false → meaning before c ≡ meaning now c
+  pub meaning-kept_clean : (c : Cell) → is_among changed c ≡ false → is_stale now changed c ≡ false → meaning setting before c ≡ meaning setting now c
   meaning-kept_clean c unchanged fresh = meaning-kept c (elim (is_formula now c) as (λ b. is_formula now c ≡ b → reaches now changed (formula_count now) c ≡ false) [
     | true ↦ λ e. not_both _ _ fresh e
     | false ↦ λ e. reaches-constant now changed (formula_count now) c e ∙ unchanged

@@ -1,46 +1,95 @@
 -- What each cell of a book means, by recursion along the references.
-use Rattle.std.specs.Prelude.{ℕ, zero, suc, if◌then◌else◌, Option, None, Some, List, map}
+use Rattle.std.specs.Prelude.{ℕ, zero, suc, Bool, true, false, if◌then◌else◌, Option, None, Some, List, map}
+use Rattle.std.specs.List.{list_any}
+use Rattle.addin_types.specs.declared.registrations.Registration.{Registration}
 use Rattle.cell_refs.specs.declared.grid.Cell.{Cell}
+use Rattle.cell_values.specs.declared.topics.Topic.{Topic}
 use Rattle.cell_values.specs.declared.values.Value.{Value}
 use Rattle.cell_values.specs.declared.values.Value.TheVariants as values
+use Rattle.formula_parse.specs.Tree.{precedents}
 use Rattle.workbook.specs.declared.contents.Content.{Content}
 use Rattle.workbook.specs.declared.contents.Content.TheVariants as contents
 use Rattle.workbook.specs.Book.{content_at, formula_count}
 use Rattle.workbook.specs.Circular.{is_circular}
-use Rattle.workbook.specs.Evaluation.{evaluated}
+use Rattle.workbook.specs.Evaluation as evaluation
+use Rattle.workbook.specs.Evaluation.{World, Answer, evaluated}
 
--- the value of a content on the sheet home: a constant, Blank for none, or the formula's value
-abbrev pub content_value : Option Content → ℕ → (Cell → Value) → Value
-content_value None home input = values.Blank
-content_value (Some (contents.Num n)) home input = values.Num n
-content_value (Some (contents.Text t)) home input = values.Text t
-content_value (Some (contents.Bool b)) home input = values.Bool b
-content_value (Some (contents.Error e)) home input = values.Error e
-content_value (Some (contents.Formula tree)) home input = evaluated tree home input
+-- what the formulas of a book are evaluated over beside its cells
+pub record Setting : Type 0 where
+  -- the snapshot: the value of each topic
+  pub snapshot : Topic → Value
+  -- the value that was accepted for the asynchronous call at a site of a cell's formula, if one was
+  pub accepted : Cell → ℕ → Option Value
+  -- what a name was registered with, if it was
+  pub registered : List ℕ → Option Registration
+  -- what an add-in function answers
+  pub answer : List ℕ → List Value → Value
 
--- the value of a cell from which walks along formula cells have fewer steps than this
-abbrev pub value_within : List (Cell × Content) → ℕ → Cell → Value
-value_within book zero cell = content_value (content_at book cell) cell.sheet (λ _. values.Blank)
-value_within book (suc steps) cell = content_value (content_at book cell) cell.sheet (value_within book steps)
+-- the world of a cell's formula, where the cells that it names have these values
+abbrev pub world_at : Setting → Cell → (Cell → Value) → World
+world_at setting cell input = record {
+  home = cell.sheet;
+  input = input;
+  known = λ topic. Some (setting.snapshot topic);
+  accepted = setting.accepted cell;
+  registered = setting.registered;
+  answer = setting.answer;
+}
 
--- the value of a cell that is not circular
-abbrev pub value_of : List (Cell × Content) → Cell → Value
-value_of book cell = value_within book (formula_count book) cell
-
--- what a cell means: a value, or that it is circular
+-- what a cell means: a value; that it is circular; the asynchronous call that it asks for; or that it waits for a cell that asks
 pub data Meaning : Type 0 where
   Val : Value → Meaning
   Circ : Meaning
+  Asks : ℕ → List ℕ → List Value → Meaning
+  Open : Meaning
+
+-- what an answer means; in a setting each topic has a value, so that none is needed
+abbrev pub meant : Answer → Meaning
+meant (evaluation.Val v) = Val v
+meant (evaluation.Asks site name args) = Asks site name args
+meant (evaluation.Needs topic) = Open
+
+-- the value of a meaning; Blank where it is none
+abbrev pub value_in : Meaning → Value
+value_in (Val v) = v
+value_in Circ = values.Blank
+value_in (Asks site name args) = values.Blank
+value_in Open = values.Blank
+
+-- whether a cell that names one of this meaning waits
+abbrev pub is_open : Meaning → Bool
+is_open (Val v) = false
+is_open Circ = false
+is_open (Asks site name args) = true
+is_open Open = true
+
+-- the meaning of a content of this cell, where cells mean so: a formula waits where a cell that it names asks or waits
+abbrev pub content_meaning : Setting → Cell → (Cell → Meaning) → Option Content → Meaning
+content_meaning setting cell meanings None = Val values.Blank
+content_meaning setting cell meanings (Some (contents.Num n)) = Val (values.Num n)
+content_meaning setting cell meanings (Some (contents.Text t)) = Val (values.Text t)
+content_meaning setting cell meanings (Some (contents.Bool b)) = Val (values.Bool b)
+content_meaning setting cell meanings (Some (contents.Error e)) = Val (values.Error e)
+content_meaning setting cell meanings (Some (contents.Formula tree)) =
+    if list_any (λ d. is_open (meanings d)) (precedents tree cell.sheet) then Open
+    else meant (evaluated (world_at setting cell (λ d. value_in (meanings d))) tree)
+
+-- the meaning of a cell from which walks along formula cells have fewer steps than this
+abbrev pub meaning_within : Setting → List (Cell × Content) → ℕ → Cell → Meaning
+meaning_within setting book zero cell = content_meaning setting cell (λ d. Val values.Blank) (content_at book cell)
+meaning_within setting book (suc steps) cell = content_meaning setting cell (meaning_within setting book steps) (content_at book cell)
 
 -- the meaning of a cell
-abbrev pub meaning : List (Cell × Content) → Cell → Meaning
-meaning book cell = if is_circular book cell then Circ else Val (value_of book cell)
+abbrev pub meaning : Setting → List (Cell × Content) → Cell → Meaning
+meaning setting book cell = if is_circular book cell then Circ else meaning_within setting book (formula_count book) cell
 
--- what a cell shows of its meaning: its value, or None where it is circular
+-- what a cell shows of its meaning: its value, or None where it has none
 abbrev pub shown : Meaning → Option Value
 shown (Val v) = Some v
 shown Circ = None
+shown (Asks site name args) = None
+shown Open = None
 
 -- the sheet of a book: what its cells show, in cell order
-abbrev pub sheet_of : List (Cell × Content) → List (Cell × Option Value)
-sheet_of book = map (λ e. (e.0, shown (meaning book e.0))) book
+abbrev pub sheet_of : Setting → List (Cell × Content) → List (Cell × Option Value)
+sheet_of setting book = map (λ e. (e.0, shown (meaning setting book e.0))) book

@@ -1,15 +1,18 @@
 -- The state of the host, and what each command makes of it.
-use Rattle.std.specs.Prelude.{ℕ, ◌+◌, Bool, true, false, ◌||◌, if◌then◌else◌, List, [], ◌∷◌}
+use Rattle.std.specs.Prelude.{ℕ, ◌+◌, Bool, true, false, ◌||◌, if◌then◌else◌, None, List, [], ◌∷◌}
 use Rattle.std.specs.BTreeMap.{insert_entry}
+use Rattle.addin_types.specs.Samples.{sample_answer}
 use Rattle.cell_refs.specs.declared.grid.Cell.{Cell}
 use Rattle.cell_refs.specs.Cell.{cell_cmp}
+use Rattle.cell_values.specs.declared.errors.ErrorKind.TheVariants as errors
+use Rattle.cell_values.specs.declared.values.Value.TheVariants as values
 use Rattle.workbook.specs.declared.contents.Content.{Content}
 use Rattle.workbook.specs.declared.commands.Command.{Command}
 use Rattle.workbook.specs.declared.commands.Command.TheVariants as commands
 use Rattle.workbook.specs.declared.replies.Reply.{Reply}
 use Rattle.workbook.specs.declared.replies.Reply.TheVariants as replies
 use Rattle.workbook.specs.Book.{exceeds_cells, exceeds_formulas}
-use Rattle.workbook.specs.Meaning.{sheet_of}
+use Rattle.workbook.specs.Meaning.{Setting, sheet_of}
 use Rattle.workbook.specs.Stale.{stale_count}
 
 -- the state of the host
@@ -25,6 +28,10 @@ pub record State : Type 0 where
   -- whether it runs
   pub running : Bool
 
+-- the setting of a host that knows no server and no registered function: each topic is #N/A, and no call was asked for
+abbrev pub alone : Setting
+alone = record { snapshot = λ topic. values.Error errors.Na; accepted = λ cell site. None; registered = λ name. None; answer = sample_answer }
+
 -- an empty book, and no recalculation yet
 abbrev pub first_state : State
 first_state = record { book = []; changed = []; completed = []; round = 0; running = false }
@@ -39,14 +46,14 @@ abbrev pub reply_at_rest : State → Command → Reply
 reply_at_rest s (commands.Set cell content) = reply_to_set s.book cell content
 reply_at_rest s (commands.Begin kind) = replies.Begun (s.round + 1)
 reply_at_rest s commands.Settle = replies.Idle
-reply_at_rest s (commands.Print form) = replies.Sheet form (sheet_of s.completed)
+reply_at_rest s (commands.Print form) = replies.Sheet form (sheet_of alone s.completed)
 
 -- the reply to a command while a recalculation runs
 abbrev pub reply_in_round : State → Command → Reply
 reply_in_round s (commands.Set cell content) = replies.Busy s.round
 reply_in_round s (commands.Begin kind) = replies.Busy s.round
 reply_in_round s commands.Settle = replies.Done s.round (stale_count s.book s.changed)
-reply_in_round s (commands.Print form) = replies.Sheet form (sheet_of s.completed)
+reply_in_round s (commands.Print form) = replies.Sheet form (sheet_of alone s.completed)
 
 -- the state after a command while no recalculation runs
 abbrev pub after_at_rest : State → Command → State

@@ -40,7 +40,12 @@ impl Model for Book {
     ghost use Rattle.std.specs.Prelude.{◌≡◌, ◌≤◌, length};
     ghost use Rattle.workbook.specs.Book.{BookState, formula_count, IsInOrder, CELL_LIMIT, FORMULA_LIMIT};
 
+    ghost use Rattle.formula_parse.specs.contracts.nodes.Node as e;
+    ghost use Rattle.std.specs.Coded.{codes};
+
     ghost Value = { BookState };
+
+    ghost coded = { Prim.hlevel (codes, e.the_row.coded) };
 
     ghost view = { λ b. record { contents = b.contents.entries; functions = b.functions } };
 

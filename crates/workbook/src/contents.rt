@@ -1,7 +1,7 @@
 ghost use Rattle.std.specs.Prelude.{◌≡◌, Some};
 
 use cell_values::{ErrorKind, Text};
-use sum_formulas::Tree;
+use formula_parse::Tree;
 
 /// The content of a cell: a constant or a formula.
 #[derive(Drop)]

@@ -7,7 +7,7 @@ ghost use Rattle.workbook.specs.declared.contents.Content.{Content};
 ghost use Rattle.workbook.specs.Book.{IsInOrder, is_formula, content_at, named_cells, formula_count};
 ghost use Rattle.workbook.specs.Circular.{is_circular, walks_on};
 ghost use Rattle.workbook.specs.Stale.{is_among, reaches, is_stale};
-ghost use Rattle.workbook.specs.Meaning.{meaning, Val, Circ, value_of, content_value};
+ghost use Rattle.workbook.specs.Meaning.{Setting, meaning, Circ, content_meaning};
 
 /// From a circular cell there are walks of every length, and a cell is circular exactly where it names a
 /// circular cell.
@@ -24,18 +24,18 @@ pub fn reached_cells()
         → reaches book changed steps cell ≡ true → reaches book changed (formula_count book) cell ≡ true }
 {}
 
-/// A cell that isn't circular has the value of its content over the values of the cells that it names.
+/// A cell that isn't circular has the meaning of its content over the meanings of the cells that it names.
 pub fn meanings_of_formulas()
-    ensures circular { (book : List (Cell × Content)) (cell : Cell)
-        → is_circular book cell ≡ true → meaning book cell ≡ Circ }
-    ensures value { (book : List (Cell × Content)) (cell : Cell) → is_circular book cell ≡ false
-        → meaning book cell ≡ Val (content_value (content_at book cell) cell.sheet (value_of book)) }
+    ensures circular { (setting : Setting) (book : List (Cell × Content)) (cell : Cell)
+        → is_circular book cell ≡ true → meaning setting book cell ≡ Circ }
+    ensures content { (setting : Setting) (book : List (Cell × Content)) → IsInOrder book → (cell : Cell) → is_circular book cell ≡ false
+        → meaning setting book cell ≡ content_meaning setting cell (meaning setting book) (content_at book cell) }
 {}
 
 /// A formula cell that isn't stale keeps its meaning, and so does a constant that wasn't changed.
 pub fn kept_meanings()
-    ensures { (before now : List (Cell × Content)) (changed : List Cell) → IsInOrder before → IsInOrder now
+    ensures { (setting : Setting) (before now : List (Cell × Content)) (changed : List Cell) → IsInOrder before → IsInOrder now
         → ((cell : Cell) → is_among changed cell ≡ false → content_at before cell ≡ content_at now cell)
         → (cell : Cell) → is_among changed cell ≡ false → is_stale now changed cell ≡ false
-        → meaning before cell ≡ meaning now cell }
+        → meaning setting before cell ≡ meaning setting now cell }
 {}

@@ -25,7 +25,7 @@ use Rattle.formula_parse.specs.Tree.{site_count}
 use Rattle.functions.specs.Applied.{applied}
 use Rattle.functions.specs.Inputs.{IsInput}
 use Rattle.functions.specs.Functions.{arity_of, function_named}
-use Rattle.cell_eval.specs.Evaluation.{Val, with_all, operated_on, is_within, own_site, final_answer, negated_times, then_with}
+use Rattle.workbook.specs.Evaluation.{Val, with_all, operated_on, is_within, own_site, final_answer, negated_times, then_with}
 use Rattle.cell_eval.proofs.evaluation.+part.Goals as goal
 use Rattle.cell_eval.proofs.evaluation.+part.Goals.{call-then-ne, call-else-ne}
 

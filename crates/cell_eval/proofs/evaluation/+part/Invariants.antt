@@ -1,6 +1,6 @@
 use Rattle.std.proofs.Common.{◌≡◌, ◌+◌, ◌≤◌, All, drop, length}
 use Rattle.functions.specs.Inputs.{IsInput}
-use Rattle.cell_eval.specs.Evaluation.{Val, with_all, operated_on}
+use Rattle.workbook.specs.Evaluation.{Val, with_all, operated_on}
 use Rattle.cell_eval.specs.Jobs.{world_of}
 use Rattle.cell_eval.specs.Steps.{answers_at, arguments_at, chain_at, sites_among}
 use Rattle.cell_eval.proofs.Halting.{Ahead}

@@ -1,6 +1,6 @@
 use Rattle.cell_eval.proofs.OperationLaws.{one_turn}
 use Rattle.std.proofs.Common.{ap, sym, ◌∙◌, arith}
-use Rattle.cell_eval.specs.Evaluation.{negated_times}
+use Rattle.workbook.specs.Evaluation.{negated_times}
 use Rattle.std.proofs.Common.{◌-◌, ◌+◌}
 use Rattle.cell_eval.proofs.operations.negated.Goals as goal
 

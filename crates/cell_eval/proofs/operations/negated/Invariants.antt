@@ -1,5 +1,5 @@
 use Rattle.std.proofs.Common.{◌≡◌, ◌-◌}
-use Rattle.cell_eval.specs.Evaluation.{negated_times}
+use Rattle.workbook.specs.Evaluation.{negated_times}
 use Rattle.cell_eval.proofs.operations.negated.Given as goal
 
 -- the value is still to be negated as often as turns are left

@@ -1,7 +1,7 @@
 use Rattle.std.proofs.Common.{◌≡◌, map, ap, sym, ◌∙◌}
 use Rattle.cell_values.specs.Coercion.{text_of}
 use Rattle.functions.specs.Inputs.{all_ok}
-use Rattle.cell_eval.specs.Evaluation.{topic_answer}
+use Rattle.workbook.specs.Evaluation.{topic_answer}
 use Rattle.cell_eval.specs.Jobs.{world_of}
 use Rattle.cell_eval.specs.Plans.{planned_value}
 use Rattle.cell_eval.proofs.Halting.{ComesTo-same}

@@ -2,7 +2,7 @@ use Rattle.std.proofs.Common.{rules, ◌≡◌, ◌+◌, ◌≤◌, ◌<◌, get
 use Rattle.std.proofs.lemmas.List.{drop_more}
 use Rattle.formula_parse.specs.declared.nodes.Node.{Node}
 use Rattle.formula_parse.specs.Tree.{site_count}
-use Rattle.cell_eval.specs.Evaluation.{own_site}
+use Rattle.workbook.specs.Evaluation.{own_site}
 use Rattle.cell_eval.specs.Steps.{sites_among}
 use Rattle.cell_eval.proofs.SiteLaws.{sites_call, sites_chain, sites_parentheses, sites_negation, own_known, own_new}
 use Rattle.cell_eval.proofs.Weights.{weight, weights, weight_call, weight_chain, weight_parentheses, weight_negation, weight_at}

@@ -6,7 +6,7 @@ use Rattle.cell_values.specs.declared.topics.Topic.{Topic}
 use Rattle.cell_values.specs.Name.{is_name}
 use Rattle.cell_eval.specs.Jobs.{world_of, topic_value}
 use Rattle.cell_eval.proofs.TopicLaws.{named}
-use Rattle.cell_eval.specs.Evaluation.{LONGEST_STRING}
+use Rattle.workbook.specs.Evaluation.{LONGEST_STRING}
 use Rattle.cell_eval.proofs.topics.named_answer.Goals as goal
 
 pub returns-in-Some : goal.returns-in-Some

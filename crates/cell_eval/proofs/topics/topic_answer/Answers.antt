@@ -2,7 +2,7 @@ use Rattle.std.proofs.Common.{◌≡◌, List, ◌∷◌, map, Ok, ap, sym, ◌�
 use Rattle.cell_values.specs.declared.values.Value.{Value}
 use Rattle.cell_values.specs.Coercion.{text_of}
 use Rattle.functions.specs.Inputs.{all_ok}
-use Rattle.cell_eval.specs.Evaluation.{topic_answer}
+use Rattle.workbook.specs.Evaluation.{topic_answer}
 use Rattle.cell_eval.specs.Jobs.{world_of}
 use Rattle.cell_eval.proofs.Halting.{ComesTo-same}
 use Rattle.cell_eval.proofs.TopicLaws.{all_three}
