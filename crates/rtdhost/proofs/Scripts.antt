@@ -7,12 +7,10 @@ use Rattle.std.specs.Str.{IsUtf8}
 use Rattle.std.specs.Str.Lossy.{utf8_valid_len}
 use Rattle.std.proofs.lemmas.Bool.{le-ltb, eq-eqb}
 use Rattle.std.proofs.lemmas.Str.{utf8_valid_len-IsUtf8}
-use Rattle.sum_formulas.specs.declared.trees.Term.{Term}
-use Rattle.sum_formulas.specs.declared.faults.ParseFault.{ParseFault}
-use Rattle.sum_formulas.specs.declared.faults.ParseFault.TheVariants as faults
-use Rattle.sum_formulas.specs.Grammar.{formula_of}
-use Rattle.sum_formulas.specs.Parsed.{parsed}
-use Rattle.sum_formulas.proofs.ParseLaws.{parsed_formula}
+use Rattle.formula_parse.specs.declared.nodes.Node.{Node}
+use Rattle.formula_parse.specs.declared.faults.ParseFault.{ParseFault}
+use Rattle.formula_parse.specs.declared.faults.ParseFault.TheVariants as faults
+use Rattle.formula_parse.specs.Reading.{formula_of, is_utf8, parsed}
 use Rattle.rtdhost.specs.declared.script.Parsed.{Parsed}
 use Rattle.rtdhost.specs.declared.script.Parsed.TheVariants.{Empty}
 use Rattle.rtdhost.specs.declared.script.BadLine.{BadLine}
@@ -37,13 +35,18 @@ said_by_words line short some utf8 =
 pub said_so : (text line : List ℕ) (r : Result Parsed BadLine) → text ≡ line → length line ≤ 160000 → eqb (length line) 0 ≡ false → IsUtf8 line → IfOk r (λ said. words_said text ≡ Some said) → IfOk r (λ said. line_said line ≡ Some said)
 said_so text line r is short some utf8 h = subst (λ o. IfOk r (λ said. o ≡ Some said)) (ap words_said is ∙ sym (said_by_words line short some utf8)) h
 
+-- a text of which nothing is parsed is no formula
+none_said : (text : List ℕ) (fault : ParseFault) → Err fault ≡ parsed text → formula_of text ≡ None
+unfolding formula_of
+none_said text fault is = elim (is_utf8 text) as (λ b. cond b (result_ok (parsed text)) None ≡ None) [ true ↦ sym (ap result_ok is) | false ↦ refl ]
+
 -- a text that parses to a fault is no formula
-pub no_formula : (text : List ℕ) (r : Result (List Term) ParseFault) (fault : ParseFault) → r ≡ Err fault → fault ≢ faults.Memory → (r ≡ Err faults.Memory) ⊎ (r ≡ parsed text) → formula_of text ≡ None
+pub no_formula : (text : List ℕ) (r : Result Node ParseFault) (fault : ParseFault) → r ≡ Err fault → fault ≢ faults.Memory → (r ≡ Err faults.Memory) ⊎ (r ≡ parsed text) → formula_of text ≡ None
 no_formula text r fault is known (inl memory) = absurd (known (shed (sym is ∙ memory)))
   where
-    shed : ◌≡◌ {A = Result (List Term) ParseFault} (Err fault) (Err faults.Memory) → fault ≡ faults.Memory
+    shed : ◌≡◌ {A = Result Node ParseFault} (Err fault) (Err faults.Memory) → fault ≡ faults.Memory
     shed e = cc
-no_formula text r fault is known (inr exact) = sym (parsed_formula text) ∙ ap result_ok (sym exact ∙ is)
+no_formula text r fault is known (inr exact) = none_said text fault (sym is ∙ exact)
 
 pub same_fault : (a b : BadLine) → ◌≡◌ {A = Result Content BadLine} (Err a) (Err b) → a ≡ b
 same_fault a b e = cc

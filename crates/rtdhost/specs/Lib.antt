@@ -10,6 +10,7 @@ pub mod Reading
 pub mod Session
 pub mod Sink
 pub mod Source
+pub mod Scanning
 pub mod Script
 pub mod Replies
 pub mod Output

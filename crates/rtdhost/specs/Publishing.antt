@@ -9,10 +9,11 @@ use Rattle.workbook.specs.declared.contents.Content.{Content}
 use Rattle.workbook.specs.Book.{content_at, is_formula}
 use Rattle.workbook.specs.Meaning.{meaning, shown}
 use Rattle.workbook.specs.Stale.{is_among}
+use Rattle.workbook.specs.State.{alone}
 
 -- what a sheet shows of a cell is what the cell means in the book; nothing where it has no content
 abbrev pub ShowsMeaning : List (Cell × Content) → List (Cell × Option Value) → Cell → Type 0
-ShowsMeaning book sheet cell = lookup (same_cell cell) sheet ≡ option_map (λ _. shown (meaning book cell)) (content_at book cell)
+ShowsMeaning book sheet cell = lookup (same_cell cell) sheet ≡ option_map (λ _. shown (meaning alone book cell)) (content_at book cell)
 
 -- what shows its meaning goes on to show it
 abbrev pub KeepsMeanings : List (Cell × Content) → List (Cell × Option Value) → List (Cell × Option Value) → Type 0

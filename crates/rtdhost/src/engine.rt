@@ -6,10 +6,10 @@ ghost use Rattle.cell_refs.specs.Cell.{cell_cmp};
 ghost use Rattle.rtdhost.specs.Engine.{IsReplyToSet};
 ghost use Rattle.rtdhost.specs.Marking.{AddsCell};
 ghost use Rattle.workbook.specs.Meaning.{sheet_of};
-ghost use Rattle.workbook.specs.State.{State, first_state, reply_to, state_after};
+ghost use Rattle.workbook.specs.State.{State, alone, first_state, reply_to, state_after};
 
-use super::evaluating::copied;
 use super::recalculating::recalculate;
+use super::sights::copied;
 use cell_refs::Cell;
 use cell_values::{Memory, Value};
 use std::alloc::Global;
@@ -108,7 +108,13 @@ impl Engine {
         if !self.running {
             return Ok(Reply::Idle);
         }
-        let cells = recalculate(self.alloc, &self.book, &self.changed, &mut self.sheet)?;
+        let cells = recalculate(
+            self.alloc,
+            self.round,
+            &self.book,
+            &self.changed,
+            &mut self.sheet,
+        )?;
         self.changed.clear();
         self.running = false;
         Ok(Reply::Done {
@@ -120,7 +126,7 @@ impl Engine {
     /// The sheet of the last completed recalculation.
     fn print(&self, form: Form) -> Result<Reply, Memory>
         ensures step { (s : State) → Stands self.now s
-            → IfOk result (λ reply. reply ≡ Reply.Sheet form (sheet_of s.completed)) }
+            → IfOk result (λ reply. reply ≡ Reply.Sheet form (sheet_of alone s.completed)) }
     {
         let cells = sheet_cells(self.alloc, &self.sheet)?;
         Ok(Reply::Sheet { form, cells })

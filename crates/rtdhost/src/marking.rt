@@ -1,56 +1,53 @@
 //! Marks the stale cells in passes.
 
 ghost use Rattle.std.specs.Prelude.{◌≡◌, Ok, Err, IfOk, OnOk, true, false, if◌then◌else◌, [], ◌∷◌, ◌++◌};
-ghost use Rattle.std.specs.List.{list_any};
+ghost use Rattle.std.specs.List.{flat_map, list_any};
 ghost use Rattle.cell_refs.specs.declared.grid.Cell.{Cell};
-ghost use Rattle.sum_formulas.specs.Tree.{precedents};
+ghost use Rattle.cell_refs.specs.Area.{cells_of};
 ghost use Rattle.workbook.specs.Book.{IsInOrder, is_formula, formula_cells};
 ghost use Rattle.workbook.specs.Stale.{is_among, is_stale};
 ghost use Rattle.rtdhost.specs.Marking.{is_hot, is_touched, AreStale, KeepsMarks, MarksTouched, IsMarkedOrNew, AreFormulas};
 
-use cell_refs::Cell;
+use super::scanning::has_within;
+use cell_refs::{Area, Cell};
 use cell_values::Memory;
+use formula_parse::names;
 use std::alloc::Global;
 use std::collections::BTreeSet;
-use sum_formulas::Term;
 use workbook::{Book, Content};
 
-/// Whether a cell is changed or marked.
-fn is_hot(changed: &BTreeSet<Cell>, marks: &BTreeSet<Cell>, cell: Cell) -> bool
-    ensures { result ≡ is_hot changed.now.keys marks.now.keys cell }
+/// Whether a cell of one of the areas is changed or marked.
+fn has_hot(changed: &BTreeSet<Cell>, marks: &BTreeSet<Cell>, areas: &[Area]) -> bool
+    ensures { result ≡ list_any (is_hot changed.now.keys marks.now.keys) (flat_map cells_of areas.now) }
 {
-    changed.contains(&cell) || marks.contains(&cell)
-}
-
-/// Whether one of the terms names a cell that is changed or marked.
-fn names_hot(changed: &BTreeSet<Cell>, marks: &BTreeSet<Cell>, terms: &[Term], home: u8) -> bool
-    ensures { result ≡ list_any (is_hot changed.now.keys marks.now.keys) (precedents terms.now home) }
-{
-    for term in terms {
-        if let Term::Reference(reference) = term {
-            if is_hot(changed, marks, reference.at(home)) {
-                return true;
-            }
-        }
-    }
-    false
+    has_within(changed, areas) || has_within(marks, areas)
 }
 
 /// Whether a cell is changed, or names a cell that is changed or marked.
-fn is_touched(book: &Book, changed: &BTreeSet<Cell>, marks: &BTreeSet<Cell>, cell: Cell) -> bool
-    ensures { result ≡ is_touched book.now.contents changed.now.keys marks.now.keys cell }
+fn is_touched(
+    alloc: Global,
+    book: &Book,
+    changed: &BTreeSet<Cell>,
+    marks: &BTreeSet<Cell>,
+    cell: Cell,
+) -> Result<bool, Memory>
+    ensures { IfOk result (λ touched. touched ≡ is_touched book.now.contents changed.now.keys marks.now.keys cell) }
 {
     if changed.contains(&cell) {
-        return true;
+        return Ok(true);
     }
     match book.get(cell) {
-        Some(Content::Formula(tree)) => names_hot(changed, marks, tree.terms(), cell.sheet),
-        _ => false,
+        Some(Content::Formula(tree)) => {
+            let areas = names(alloc, tree, cell.sheet)?;
+            Ok(has_hot(changed, marks, areas.as_slice()))
+        }
+        _ => Ok(false),
     }
 }
 
 /// Marks the cell if it is touched, and answers whether it wasn't marked before.
 fn mark_touched(
+    alloc: Global,
     book: &Book,
     changed: &BTreeSet<Cell>,
     cell: Cell,
@@ -63,7 +60,7 @@ fn mark_touched(
         → IsMarkedOrNew book.now.contents changed.now.keys marks.old.keys cell other }
     ensures idle { result ≡ Ok false → marks.new.keys ≡ marks.old.keys }
 {
-    if marks.contains(&cell) || !is_touched(book, changed, marks, cell) {
+    if marks.contains(&cell) || !is_touched(alloc, book, changed, marks, cell)? {
         return Ok(false);
     }
     match marks.insert(cell) {
@@ -74,6 +71,7 @@ fn mark_touched(
 
 /// Marks each of the cells that is touched, and answers whether it marked one.
 fn mark_pass(
+    alloc: Global,
     book: &Book,
     changed: &BTreeSet<Cell>,
     cells: &[Cell],
@@ -87,7 +85,7 @@ fn mark_pass(
 {
     let mut grew = false;
     for cell in cells {
-        let marked = mark_touched(book, changed, *cell, marks)?;
+        let marked = mark_touched(alloc, book, changed, *cell, marks)?;
         grew |= marked;
     }
     Ok(grew)
@@ -106,7 +104,7 @@ pub fn stale_cells(
 {
     let mut marks = BTreeSet::new(alloc);
     for _ in formulas {
-        if !mark_pass(book, changed, formulas, &mut marks)? {
+        if !mark_pass(alloc, book, changed, formulas, &mut marks)? {
             return Ok(marks);
         }
     }

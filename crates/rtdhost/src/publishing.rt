@@ -9,7 +9,7 @@ ghost use Rattle.rtdhost.specs.Publishing.{ShowsMeaning, KeepsMeanings, ShowsCon
 ghost use Rattle.std.specs.Prelude.{List};
 ghost use Rattle.workbook.specs.declared.contents.Content.{Content};
 
-use super::evaluating::{constant_value, copied};
+use super::sights::{constant_value, copied};
 use cell_refs::Cell;
 use cell_values::{Memory, Value};
 use std::collections::{BTreeMap, BTreeSet};

@@ -10,18 +10,20 @@ ghost use Rattle.rtdhost.specs.Inputs.{ShowsOthers, IsEvaluated};
 ghost use Rattle.rtdhost.specs.Publishing.{ShowsMeaning};
 ghost use Rattle.rtdhost.specs.Recalculating.{KeepsOthers};
 
-use super::evaluating::{Sight, evaluate};
+use super::evaluating::evaluate;
 use super::marking::{formula_cells, stale_cells};
 use super::publishing::{show_constants, show_stale};
+use super::sights::Sight;
 use cell_refs::Cell;
 use cell_values::{Memory, Value};
 use std::alloc::Global;
 use std::collections::{BTreeMap, BTreeSet};
 use workbook::Book;
 
-/// Brings the sheet up to date, and answers how many cells were stale, circular ones included.
+/// Brings the sheet up to date in the recalculation of this number, and answers how many cells were stale, circular ones included.
 pub fn recalculate(
     alloc: Global,
+    round: u64,
     book: &Book,
     changed: &BTreeSet<Cell>,
     sheet: &mut BTreeMap<Cell, Option<Value>>,
@@ -35,7 +37,7 @@ pub fn recalculate(
     let formulas = formula_cells(alloc, book)?;
     let cells = formulas.as_slice();
     let stale = stale_cells(alloc, book, changed, cells)?;
-    let finished = evaluate_all(alloc, book, &stale, sheet, cells)?;
+    let finished = evaluate_all(alloc, round, book, &stale, sheet, cells)?;
     show_constants(book, changed, sheet)?;
     show_stale(&stale, &finished, cells, sheet)?;
     Ok(count_among(&stale, cells))
@@ -48,9 +50,10 @@ fn count_among(set: &BTreeSet<Cell>, cells: &[Cell]) -> u64
     cells.iter().filter(|cell| set.contains(*cell)).count() as u64
 }
 
-/// The values of the stale cells that aren't circular.
+/// The values of the stale cells that have one.
 fn evaluate_all(
     alloc: Global,
+    round: u64,
     book: &Book,
     stale: &BTreeSet<Cell>,
     sheet: &BTreeMap<Cell, Option<Value>>,
@@ -62,5 +65,11 @@ fn evaluate_all(
     ensures { IfOk result (λ finished. ShowsOthers book.now.contents stale.now.keys sheet.now.entries
         → IsEvaluated book.now.contents stale.now.keys finished.entries) }
 {
-    evaluate(alloc, Sight { book, stale, sheet }, formulas)
+    let sight = Sight {
+        round,
+        book,
+        stale,
+        sheet,
+    };
+    evaluate(alloc, sight, formulas)
 }

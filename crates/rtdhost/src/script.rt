@@ -2,15 +2,15 @@
 
 ghost use Rattle.std.specs.Prelude.{◌≡◌, ◌≢◌, Some, None, Err, IfOk};
 ghost use Rattle.std.specs.Prelude.{option_map};
-ghost use Rattle.sum_formulas.specs.Grammar.{formula_of};
+ghost use Rattle.formula_parse.specs.Reading.{formula_of};
 ghost use Rattle.rtdhost.specs.Script.{cell_of, content_of, set_said, word_said, words_said, line_said};
 
 use super::constants::{read_constant, read_text};
 use super::lines::MAX_LINE;
 use cell_refs::{Cell, read_ref};
+use formula_parse::{ParseFault, parse};
 use std::alloc::Global;
 use std::str;
-use sum_formulas::{ParseFault, parse};
 use workbook::{BeginKind, Command, Content, Form};
 
 /// What a line says.

@@ -1,7 +1,7 @@
 -- The book: the cells with content, in cell order, and the registered functions.
 use Rattle.std.specs.Prelude.{◌≡◌, ℕ, Bool, true, false, not, ◌&&◌, nat_le, if◌then◌else◌, Option, None, Some, is_none, List, [], ◌∷◌, length}
 use Rattle.std.specs.List.{count_by, filter}
-use Rattle.std.specs.Ordering.{is_lt}
+use Rattle.std.specs.Ordering.{is_le, is_lt}
 use Rattle.std.specs.Map.{lookup, keys_of}
 use Rattle.std.specs.List.Sorted.{IsStrictlySortedBy}
 use Rattle.cell_refs.specs.declared.grid.Cell.{Cell}
@@ -112,3 +112,11 @@ first_cell (e ∷ es) = Some e.0
 -- the least cell with content among those greater than after, or among all
 abbrev pub next_cell : List (Cell × Content) → Option Cell → Option Cell
 next_cell book after = first_cell (cells_after after book)
+
+-- the part of a book from a cell on
+abbrev pub cells_from : Cell → List (Cell × Content) → List (Cell × Content)
+cells_from from book = filter (λ e. is_le (cell_cmp from e.0)) book
+
+-- the least cell with content among those that aren't less than from
+abbrev pub first_from : List (Cell × Content) → Cell → Option Cell
+first_from book from = first_cell (cells_from from book)

@@ -58,7 +58,7 @@ impl Book {
     ghost use Rattle.std.specs.BTreeMap.{insert_entry};
     ghost use Rattle.std.specs.Map.{remove_entry};
     ghost use Rattle.cell_refs.specs.Cell.{cell_cmp, same_cell};
-    ghost use Rattle.workbook.specs.Book.{CELL_LIMIT, FORMULA_LIMIT, content_at, formula_count, is_formula, next_cell, IsInOrder, SetsContent, PutsContent, limit_fault, exceeds_cells, exceeds_formulas, IsRefusal};
+    ghost use Rattle.workbook.specs.Book.{CELL_LIMIT, FORMULA_LIMIT, content_at, formula_count, is_formula, next_cell, first_from, IsInOrder, SetsContent, PutsContent, limit_fault, exceeds_cells, exceeds_formulas, IsRefusal};
     ghost use Rattle.workbook.specs.Functions.{AreInOrder, name_cmp, registration_of, next_name};
     ghost use Rattle.workbook.specs.declared.books.SetFault.TheVariants as faults;
 
@@ -212,6 +212,21 @@ impl Book {
         {
             None => None,
             Some((next, _)) => Some(*next),
+        }
+    }
+
+    /// The least cell with content among those that aren't less than `from`.
+    pub fn first_from(&self, from: Cell) -> Option<Cell>
+        ensures first { result ≡ first_from self.now.contents from }
+        ensures ordered { IsInOrder self.now.contents }
+    {
+        match self
+            .contents
+            .range((Bound::Included(&from), Bound::Unbounded))
+            .next()
+        {
+            None => None,
+            Some((cell, _)) => Some(*cell),
         }
     }
 

@@ -1,0 +1,26 @@
+-- Which cells lie in areas, and which of them is next.
+use Rattle.std.specs.Prelude.{◌≡◌, Bool, true, false, Option, None, Some, List, ⊥}
+use Rattle.std.specs.List.{list_any}
+use Rattle.std.specs.Ordering.{is_lt}
+use Rattle.cell_refs.specs.declared.areas.Area.{Area}
+use Rattle.cell_refs.specs.declared.grid.Cell.{Cell}
+use Rattle.cell_refs.specs.Area.{area_has}
+use Rattle.cell_refs.specs.Cell.{cell_cmp}
+
+-- whether a cell lies in one of the areas
+abbrev pub lies_in : List Area → Cell → Bool
+lies_in areas cell = list_any (λ area. area_has area cell) areas
+
+-- whether a cell is less than another
+abbrev pub is_less : Cell → Cell → Bool
+is_less a b = is_lt (cell_cmp a b)
+
+-- no cell of the areas stands before this one; where it is None, none stands anywhere
+abbrev pub IsFirst : List Area → Option Cell → Type 0
+IsFirst areas None = (q : Cell) → lies_in areas q ≡ false
+IsFirst areas (Some first) = (q : Cell) → lies_in areas q ≡ true → is_less q first ≡ false
+
+-- no cell of the areas stands behind the cell and before the next one, which stands behind it; where that is None, none stands behind the cell
+abbrev pub IsNext : List Area → Cell → Option Cell → Type 0
+IsNext areas cell None = (q : Cell) → lies_in areas q ≡ true → is_less cell q ≡ false
+IsNext areas cell (Some next) = (is_less cell next ≡ true) × ((q : Cell) → lies_in areas q ≡ true → is_less cell q ≡ true → is_less q next ≡ false)

@@ -1,0 +1,116 @@
+//! Goes through the cells of areas that stand in an ordered collection, and steps over what stands beside them.
+
+ghost use Rattle.std.specs.Prelude.{◌≡◌, [], ◌∷◌};
+ghost use Rattle.std.specs.List.{list_any};
+ghost use Rattle.rtdhost.specs.Scanning.{IsFirst, IsNext, lies_in};
+
+use cell_refs::{Area, Cell};
+use std::collections::BTreeSet;
+use std::ops::Bound;
+
+/// Whether a cell lies in one of the areas.
+pub fn lies_in(areas: &[Area], cell: Cell) -> bool
+    ensures { result ≡ lies_in areas.now cell }
+{
+    areas.iter().any(|area| area.contains(cell))
+}
+
+/// The lesser of two cells, where there are two.
+fn lesser(a: Option<Cell>, b: Cell) -> Cell {
+    match a {
+        Some(a) if a < b => a,
+        _ => b,
+    }
+}
+
+/// The first cell of an area.
+fn corner(area: &Area) -> Cell
+    ensures { IsFirst (area.now ∷ []) (Some result) }
+{
+    Cell {
+        sheet: area.sheet,
+        row: area.top,
+        col: area.left,
+    }
+}
+
+/// The least cell of an area that stands behind a cell.
+fn next_of(area: &Area, cell: Cell) -> Option<Cell>
+    ensures { IsNext (area.now ∷ []) cell result }
+{
+    if cell < corner(area) {
+        return Some(corner(area));
+    }
+    if cell.sheet > area.sheet || cell.row > area.bottom {
+        return None;
+    }
+    if cell.col < area.left {
+        return Some(Cell {
+            col: area.left,
+            ..cell
+        });
+    }
+    if cell.col < area.right {
+        return Some(Cell {
+            col: cell.col + 1,
+            ..cell
+        });
+    }
+    if cell.row < area.bottom {
+        return Some(Cell {
+            row: cell.row + 1,
+            col: area.left,
+            ..cell
+        });
+    }
+    None
+}
+
+/// The least cell of the areas.
+pub fn first_in(areas: &[Area]) -> Option<Cell>
+    ensures { IsFirst areas.now result }
+{
+    let mut first = None;
+    for area in areas {
+        first = Some(lesser(first, corner(area)));
+    }
+    first
+}
+
+/// The least cell of the areas that stands behind a cell.
+pub fn next_in(areas: &[Area], cell: Cell) -> Option<Cell>
+    ensures { IsNext areas.now cell result }
+{
+    let mut next = None;
+    for area in areas {
+        if let Some(other) = next_of(area, cell) {
+            next = Some(lesser(next, other));
+        }
+    }
+    next
+}
+
+/// Whether a cell of the set lies in one of the areas.
+pub fn has_within(set: &BTreeSet<Cell>, areas: &[Area]) -> bool
+    ensures { result ≡ list_any (lies_in areas.now) set.now.keys }
+{
+    let mut from = first_in(areas);
+    while let Some(seek) = from {
+        let Some(cell) = first_from(set, seek) else {
+            return false;
+        };
+        if lies_in(areas, cell) {
+            return true;
+        }
+        from = next_in(areas, cell);
+    }
+    false
+}
+
+/// The least cell of the set that isn't less than `from`.
+fn first_from(set: &BTreeSet<Cell>, from: Cell) -> Option<Cell> {
+    match set.range((Bound::Included(&from), Bound::Unbounded)).next() {
+        None => None,
+        Some(cell) => Some(*cell),
+    }
+}
