@@ -1,7 +1,9 @@
 -- The evaluation of a formula depends on the values of the cells that it names alone.
-use Rattle.std.proofs.Common.{◌≡◌, ℕ, zero, suc, ◌+◌, Bool, true, false, cond, List, [], ◌∷◌, ◌++◌, map, length, All, Option, Some, None, refl, ap, sym, subst, ◌∙◌}
+use Rattle.std.proofs.Common.{◌≡◌, ℕ, ℤ, suc, ◌+◌, ◌-◌, Bool, true, false, cond, List, [], ◌∷◌, ◌++◌, map, flat_map, length, All, Option, Some, None, refl, ap, sym, subst, ◌∙◌, arith, codes}
 use mathlib.Core.Path.{fun_ext}
-use Rattle.std.specs.List.{flat_map, AllByRecursion}
+use Rattle.std.specs.List.{AllByRecursion}
+use Rattle.std.specs.Str.{bytes_eq}
+use Rattle.std.proofs.lemmas.Grind.{flat_map-append}
 use Rattle.std.proofs.lemmas.List.Elements.{All-head, All-tail}
 use Rattle.addin_types.specs.declared.registrations.Registration.{Registration}
 use Rattle.cell_refs.specs.declared.areas.Area.{Area}
@@ -9,18 +11,241 @@ use Rattle.cell_refs.specs.declared.grid.Cell.{Cell}
 use Rattle.cell_refs.specs.declared.references.RefText.{RefText}
 use Rattle.cell_refs.specs.Area.{area_of, cells_of}
 use Rattle.cell_refs.specs.RefText.{cell_at}
-use Rattle.cell_values.specs.declared.values.Value.{Value}
+use Rattle.cell_refs.proofs.Listing.{from_first, no_next}
+use Rattle.cell_values.specs.declared.errors.ErrorKind.{ErrorKind}
+use Rattle.cell_values.specs.declared.errors.ErrorKind.TheVariants as errors
 use Rattle.cell_values.specs.declared.names.Name.{Name}
+use Rattle.cell_values.specs.declared.texts.Text.{Text}
+use Rattle.cell_values.specs.declared.values.Value.{Value}
 use Rattle.formula_parse.specs.declared.nodes.Node.{Node}
 use Rattle.formula_parse.specs.declared.nodes.Node.TheVariants as nodes
+use Rattle.formula_parse.specs.declared.nodes.Node.TheOpen as layer
 use Rattle.formula_parse.specs.declared.operators.Operator.{Operator}
 use Rattle.formula_parse.specs.Tree.{areas_named, areas_step, chained, precedents}
 use Rattle.formula_parse.proofs.NodeLaws.{fold_number, fold_text, fold_error, fold_boolean, fold_reference, fold_area, fold_call, fold_parentheses, fold_negation, fold_chain, node_induction}
+use Rattle.functions.specs.Applied.{applied}
+use Rattle.functions.specs.Functions.{function_named, arity_of}
 use Rattle.functions.specs.declared.arguments.Arg.{Arg}
+use Rattle.functions.specs.declared.arguments.Arg.TheVariants as inputs
 use Rattle.functions.specs.declared.functions.Function.{Function}
 use Rattle.functions.specs.declared.functions.Function.TheVariants as functions
-use Rattle.workbook.specs.Evaluation.{World, Answer, Part, Argument, evaluated, part_of}
+use Rattle.workbook.specs.Evaluation.{World, Answer, Val, Part, Argument, evaluated, part_of, part_step, final_answer, failed, takes_area, with_input, with_inputs, function_answer, is_within, rtd_answer, added_answer, call_answer, own_site, sites_in, placed}
 
+-- ---- lists
+-- what holds of each of two lists together, holds of each of the first
+each_front : {X : Type 0} (P : X → Type 0) (xs ys : List X) → AllByRecursion P (xs ++ ys) → AllByRecursion P xs
+each_front P [] ys each = tt
+each_front P (x ∷ xs) ys each = (each.0, each_front P xs ys each.1)
+
+-- and of each of the second
+each_back : {X : Type 0} (P : X → Type 0) (xs ys : List X) → AllByRecursion P (xs ++ ys) → AllByRecursion P ys
+each_back P [] ys each = each
+each_back P (x ∷ xs) ys each = each_back P xs ys each.1
+
+-- two functions that agree on each of a list give the same list
+map_alike : {X Y : Type 0} (f g : X → Y) (xs : List X) → AllByRecursion (λ x. f x ≡ g x) xs → map f xs ≡ map g xs
+map_alike f g [] each = refl
+map_alike f g (x ∷ xs) each = ap (λ y. y ∷ map f xs) each.0 ∙ ap (λ ys. g x ∷ ys) (map_alike f g xs each.1)
+
+-- ---- the area of one reference
+-- an area between equal corners has the cell of its corner alone
+one_cell : (area : Area) (row col : ℕ) → area.top ≡ row → area.left ≡ col → area.bottom ≡ row → area.right ≡ col
+    → cells_of area ≡ (record { sheet = area.sheet; row = row; col = col }) ∷ []
+one_cell area row col top left bottom right =
+    from_first area (omega arith)
+    ∙ no_next area.sheet area.left area.right area.bottom area.top area.left (omega arith) (omega arith)
+    ∙ ap (λ r. (record { sheet = area.sheet; row = r; col = area.left }) ∷ []) top
+    ∙ ap (λ c. (record { sheet = area.sheet; row = row; col = c }) ∷ []) left
+
+-- a reference names its cell alone
+referred : (r : RefText) (home : ℕ) → cells_of (area_of r r home) ≡ cell_at r home ∷ []
+referred r home = one_cell (area_of r r home) r.row r.col (omega arith) (omega arith) (omega arith) (omega arith)
+
+-- ---- two worlds that differ in the values of cells
+module _ (world : World) (f g : Cell → Value) where
+  -- the first world
+  abbrev over_f : World
+  over_f = record world { input = f }
+
+  -- the second world
+  abbrev over_g : World
+  over_g = record world { input = g }
+
+  -- both give a cell the same value
+  abbrev SameValue : Cell → Type 0
+  SameValue cell = f cell ≡ g cell
+
+  -- both give the cells of an area the same values, where there is one
+  abbrev SameArea : Option Area → Type 0
+  SameArea None = Unit {0}
+  SameArea (Some area) = map f (cells_of area) ≡ map g (cells_of area)
+
+  -- ---- functions
+  -- an argument as a function takes it
+  input_alike : (takes : Bool) (area : Option Area) (value : Answer) (next : Arg → Answer) → SameArea area
+      → with_input over_f takes (record { area = area; value = value }) next ≡ with_input over_g takes (record { area = area; value = value }) next
+  input_alike true None value next same = refl
+  input_alike true (Some area) value next same = ap (λ vs. next (inputs.Cells (area.right + 1 - area.left) vs)) same
+  input_alike false area value next same = refl
+
+  -- all arguments as a function takes them
+  inputs_alike : (function : Function) (place : ℕ) (arguments : List Argument) (next : List Arg → Answer) → AllByRecursion (λ (a : Argument). SameArea a.area) arguments
+      → with_inputs over_f function place arguments next ≡ with_inputs over_g function place arguments next
+  inputs_alike function place [] next same = refl
+  inputs_alike function place (a ∷ arguments) next same =
+      input_alike (takes_area function place) a.area a.value (λ first. with_inputs over_f function (suc place) arguments (λ others. next (first ∷ others))) same.0
+      ∙ ap (with_input over_g (takes_area function place) a) (fun_ext (λ first. inputs_alike function (suc place) arguments (λ others. next (first ∷ others)) same.1))
+
+  -- a built-in function
+  function_alike : (function : Function) (arguments : List Argument) → AllByRecursion (λ (a : Argument). SameArea a.area) arguments
+      → function_answer over_f function arguments ≡ function_answer over_g function arguments
+  function_alike functions.If arguments same = refl
+  function_alike functions.IfError arguments same = refl
+  function_alike functions.IfNa arguments same = refl
+  function_alike functions.Choose arguments same = refl
+  function_alike other arguments same = inputs_alike other 0 arguments (λ args. Val (applied other args)) same
+
+  -- a name that is neither built in nor RTD
+  added_alike : (registration : Option Registration) (site : ℕ) (name : List ℕ) (arguments : List Argument)
+      → added_answer over_f registration site name arguments ≡ added_answer over_g registration site name arguments
+  added_alike None site name arguments = refl
+  added_alike (Some registration) site name arguments = refl
+
+  -- a call
+  call_alike : (known : Option Function) (site : ℕ) (name : List ℕ) (arguments : List Argument) → AllByRecursion (λ (a : Argument). SameArea a.area) arguments
+      → call_answer over_f known site name arguments ≡ call_answer over_g known site name arguments
+  call_alike (Some function) site name arguments same =
+      ap (λ answer. cond (is_within (arity_of function) (length arguments)) answer (failed errors.Value)) (function_alike function arguments same)
+  call_alike None site name arguments same =
+      ap (λ answer. cond (bytes_eq name (codes "RTD")) (rtd_answer over_f arguments) answer) (added_alike (world.registered name) site name arguments)
+
+  -- ---- parts
+  -- one part in both worlds, which refers to an area of the same values if to any
+  record Alike (part other : Part) : Type 0 where
+    same : part ≡ other
+    area : SameArea part.area
+
+  -- many such parts
+  record AllAlike (parts others : List Part) : Type 0 where
+    same : parts ≡ others
+    areas : AllByRecursion (λ (part : Part). SameArea part.area) parts
+
+  -- in both worlds a node is such a part, where the cells that it names have the same values
+  abbrev DependsOnNamed : Node → Type 0
+  DependsOnNamed node = AllByRecursion SameValue (precedents node world.home) → Alike (part_of over_f node) (part_of over_g node)
+
+  -- the areas of arguments are those of their parts
+  placed_areas : (before : ℕ) (parts : List Part) → AllByRecursion (λ (part : Part). SameArea part.area) parts → AllByRecursion (λ (a : Argument). SameArea a.area) (placed before parts)
+  placed_areas before [] same = tt
+  placed_areas before (part ∷ parts) same = (same.0, placed_areas (before + part.sites) parts same.1)
+
+  -- the parts of several nodes
+  parts_alike : (ns : List Node) → All DependsOnNamed ns → AllByRecursion SameValue (flat_map cells_of (chained (map (λ n. areas_named n world.home) ns)))
+      → AllAlike (map (part_of over_f) ns) (map (part_of over_g) ns)
+  parts_alike [] h each = record { same = refl; areas = tt }
+  parts_alike (n ∷ ns) h each =
+      let both = subst (AllByRecursion SameValue) (flat_map-append cells_of (areas_named n world.home) (chained (map (λ m. areas_named m world.home) ns))) each in
+      let first = All-head DependsOnNamed n ns h (each_front SameValue (precedents n world.home) (flat_map cells_of (chained (map (λ m. areas_named m world.home) ns))) both) in
+      let others = parts_alike ns (All-tail DependsOnNamed n ns h) (each_back SameValue (precedents n world.home) (flat_map cells_of (chained (map (λ m. areas_named m world.home) ns))) both) in
+      record {
+        same = ap (λ part. part ∷ map (part_of over_f) ns) first.same ∙ ap (λ parts. part_of over_g n ∷ parts) others.same;
+        areas = (first.area, others.areas);
+      }
+
+  -- parts that are equal to such parts
+  alike_as : (part other step step_other : Part) → part ≡ step → other ≡ step_other → Alike step step_other → Alike part other
+  alike_as part other step step_other e e_other alike = record {
+    same = e ∙ alike.same ∙ sym e_other;
+    area = subst (λ (p : Part). SameArea p.area) (sym e) alike.area;
+  }
+
+  -- the cells that a node names, where its areas are known
+  names_known : (node : Node) (areas : List Area) → areas_named node world.home ≡ areas → AllByRecursion SameValue (precedents node world.home) → AllByRecursion SameValue (flat_map cells_of areas)
+  names_known node areas e each = subst (λ list. AllByRecursion SameValue (flat_map cells_of list)) e each
+
+  -- a call over its parts
+  step_call : (name : Name) (parts others : List Part) → AllAlike parts others → Alike (part_step over_f (layer.Call name parts)) (part_step over_g (layer.Call name others))
+  step_call name parts others alike = record {
+    same =
+        ap (λ (value : ℕ → Answer). record { sites = own_site name + sites_in parts; area = None; value = value })
+        (fun_ext (λ before. ap final_answer (call_alike (function_named name) (suc before) name (placed (before + own_site name) parts) (placed_areas (before + own_site name) parts alike.areas))))
+        ∙ ap (λ list. part_step over_g (layer.Call name list)) alike.same;
+    area = tt;
+  }
+
+  -- a reference
+  step_reference : (r : RefText) → AllByRecursion SameValue (flat_map cells_of (area_of r r world.home ∷ [])) → Alike (part_step over_f (layer.Reference r)) (part_step over_g (layer.Reference r))
+  step_reference r each =
+      let cell = subst (λ cells. AllByRecursion SameValue (cells ++ [])) (referred r world.home) each in
+      record {
+        same = ap (λ v. record { sites = 0; area = Some (area_of r r world.home); value = λ (before : ℕ). Val v }) cell.0;
+        area = map_alike f g (cells_of (area_of r r world.home)) (each_front SameValue (cells_of (area_of r r world.home)) [] each);
+      }
+
+  -- a number
+  depends_number : (n : ℤ) → DependsOnNamed (nodes.Number n)
+  depends_number n each = alike_as _ _ _ _ (fold_number Part (part_step over_f) n) (fold_number Part (part_step over_g) n) (record { same = refl; area = tt })
+
+  -- a text
+  depends_text : (t : Text) → DependsOnNamed (nodes.Text t)
+  depends_text t each = alike_as _ _ _ _ (fold_text Part (part_step over_f) t) (fold_text Part (part_step over_g) t) (record { same = refl; area = tt })
+
+  -- an error
+  depends_error : (e : ErrorKind) → DependsOnNamed (nodes.Error e)
+  depends_error e each = alike_as _ _ _ _ (fold_error Part (part_step over_f) e) (fold_error Part (part_step over_g) e) (record { same = refl; area = tt })
+
+  -- a Boolean
+  depends_boolean : (b : Bool) → DependsOnNamed (nodes.Boolean b)
+  depends_boolean b each = alike_as _ _ _ _ (fold_boolean Part (part_step over_f) b) (fold_boolean Part (part_step over_g) b) (record { same = refl; area = tt })
+
+  -- a reference
+  depends_reference : (r : RefText) → DependsOnNamed (nodes.Reference r)
+  depends_reference r each =
+      alike_as _ _ _ _ (fold_reference Part (part_step over_f) r) (fold_reference Part (part_step over_g) r)
+      (step_reference r (names_known (nodes.Reference r) (area_of r r world.home ∷ []) (fold_reference (List Area) (areas_step world.home) r) each))
+
+  -- an area
+  depends_area : (a b : RefText) → DependsOnNamed (nodes.Area a b)
+  depends_area a b each =
+      let named = names_known (nodes.Area a b) (area_of a b world.home ∷ []) (fold_area (List Area) (areas_step world.home) a b) each in
+      alike_as _ _ _ _ (fold_area Part (part_step over_f) a b) (fold_area Part (part_step over_g) a b)
+      (record { same = refl; area = map_alike f g (cells_of (area_of a b world.home)) (each_front SameValue (cells_of (area_of a b world.home)) [] named) })
+
+  -- a call
+  depends_call : (name : Name) (arguments : List Node) → All DependsOnNamed arguments → DependsOnNamed (nodes.Call name arguments)
+  depends_call name arguments h each =
+      alike_as _ _ _ _ (fold_call Part (part_step over_f) name arguments) (fold_call Part (part_step over_g) name arguments)
+      (step_call name (map (part_of over_f) arguments) (map (part_of over_g) arguments)
+      (parts_alike arguments h (names_known (nodes.Call name arguments) (chained (map (λ n. areas_named n world.home) arguments)) (fold_call (List Area) (areas_step world.home) name arguments) each)))
+
+  -- what stands in parentheses
+  depends_parentheses : (inner : Node) → DependsOnNamed inner → DependsOnNamed (nodes.Parentheses inner)
+  depends_parentheses inner h each =
+      let alike = h (names_known (nodes.Parentheses inner) (areas_named inner world.home) (fold_parentheses (List Area) (areas_step world.home) inner) each) in
+      alike_as _ _ _ _ (fold_parentheses Part (part_step over_f) inner) (fold_parentheses Part (part_step over_g) inner)
+      (record { same = ap (λ part. part_step over_g (layer.Parentheses part)) alike.same; area = tt })
+
+  -- an operand behind signs
+  depends_negation : (count : ℕ) (operand : Node) → DependsOnNamed operand → DependsOnNamed (nodes.Negation count operand)
+  depends_negation count operand h each =
+      let alike = h (names_known (nodes.Negation count operand) (areas_named operand world.home) (fold_negation (List Area) (areas_step world.home) count operand) each) in
+      alike_as _ _ _ _ (fold_negation Part (part_step over_f) count operand) (fold_negation Part (part_step over_g) count operand)
+      (record { same = ap (λ part. part_step over_g (layer.Negation count part)) alike.same; area = tt })
+
+  -- a chain
+  depends_chain : (operands : List Node) (ops : List Operator) → All DependsOnNamed operands → DependsOnNamed (nodes.Chain operands ops)
+  depends_chain operands ops h each =
+      let alike = parts_alike operands h (names_known (nodes.Chain operands ops) (chained (map (λ n. areas_named n world.home) operands)) (fold_chain (List Area) (areas_step world.home) operands ops) each) in
+      alike_as _ _ _ _ (fold_chain Part (part_step over_f) operands ops) (fold_chain Part (part_step over_g) operands ops)
+      (record { same = ap (λ parts. part_step over_g (layer.Chain parts ops)) alike.same; area = tt })
+
+  -- each tree
+  depends_on_named : (tree : Node) → DependsOnNamed tree
+  depends_on_named = node_induction DependsOnNamed
+      depends_number depends_text depends_error depends_boolean depends_reference depends_area
+      depends_call depends_parentheses depends_negation depends_chain
+
+-- the answer of a formula is the same over the same values of the cells that it names
 pub evaluated_alike : (world : World) (f g : Cell → Value) (tree : Node) → AllByRecursion (λ d. f d ≡ g d) (precedents tree world.home)
     → evaluated (record world { input = f }) tree ≡ evaluated (record world { input = g }) tree
-evaluated_alike world f g tree each = ?
+evaluated_alike world f g tree each = ap (λ (part : Part). final_answer (part.value 0)) (depends_on_named world f g tree each).same
