@@ -19,12 +19,12 @@ use Rattle.workbook.proofs.Walking.{walks-shorter, circular-walks, circular-name
 use Rattle.workbook.proofs.Reaching.{or_false, reaches-enough, reaches-constant}
 
 -- two tests that agree on each of a list
-any_each : {X : Type 0} (p q : X → Bool) (xs : List X) → AllByRecursion (λ x. p x ≡ q x) xs → list_any p xs ≡ list_any q xs
+pub any_each : {X : Type 0} (p q : X → Bool) (xs : List X) → AllByRecursion (λ x. p x ≡ q x) xs → list_any p xs ≡ list_any q xs
 any_each p q [] each = refl
 any_each p q (x ∷ xs) each = ap (λ b. b || list_any p xs) each.0 ∙ ap (λ b. q x || b) (any_each p q xs each.1)
 
 -- what is said of each of a list in one form, in another
-each_leads : {X : Type 0} (P Q : X → Type 0) → ((x : X) → P x → Q x) → (xs : List X) → AllByRecursion P xs → AllByRecursion Q xs
+pub each_leads : {X : Type 0} (P Q : X → Type 0) → ((x : X) → P x → Q x) → (xs : List X) → AllByRecursion P xs → AllByRecursion Q xs
 each_leads P Q leads [] each = tt
 each_leads P Q leads (x ∷ xs) each = (leads x each.0, each_leads P Q leads xs each.1)
 
