@@ -27,7 +27,7 @@ use Rattle.workbook.proofs.Steps.{formula_cells-has}
 use Rattle.workbook.specs.declared.commands.Command.{Command}
 use Rattle.workbook.specs.declared.commands.Command.TheVariants as commands
 use Rattle.workbook.specs.declared.replies.Reply.TheVariants as replies
-use Rattle.workbook.specs.State.{State, reply_to, state_after, reply_at_rest, reply_in_round, after_at_rest, after_in_round, reply_to_set}
+use Rattle.workbook.specs.State.{State, alone, reply_to, state_after, reply_at_rest, reply_in_round, after_at_rest, after_in_round, reply_to_set}
 use Rattle.workbook.specs.Book.{SetsContent, named_cells}
 use Rattle.workbook.proofs.Walking.{any_alike}
 use Rattle.workbook.proofs.Reaching.{or_false}
@@ -43,8 +43,8 @@ module _ (before book : List (Cell × Content)) (changed : List Cell) (before_or
   still_shown : (sheet : List (Cell × Option Value)) → ((c : Cell) → ShowsMeaning before sheet c) → (q : Cell) → is_among changed q ≡ false → is_stale book changed q ≡ false → ShowsMeaning book sheet q
   still_shown sheet shows q unchanged fresh =
       shows q
-      ∙ ap (option_map (λ _. shown (meaning before q))) (kept q unchanged)
-      ∙ ap (λ m. option_map (λ _. shown m) (content_at book q)) (meaning-kept_clean before book changed before_ordered ordered kept q unchanged fresh)
+      ∙ ap (option_map (λ _. shown (meaning alone before q))) (kept q unchanged)
+      ∙ ap (λ m. option_map (λ _. shown m) (content_at book q)) (meaning-kept_clean alone before book changed before_ordered ordered kept q unchanged fresh)
 
   changed_stale : (q : Cell) → is_formula book q ≡ true → is_among changed q ≡ true → is_stale book changed q ≡ true
   changed_stale q formula hit = and_from _ _ formula (reaches-among book ordered changed (formula_count book) q hit)
@@ -55,7 +55,7 @@ module _ (before book : List (Cell × Content)) (changed : List Cell) (before_or
     | false ↦ λ _. refl
   ] refl
 
-  some_shown : (q : Cell) (o : Option Content) → has_formula o ≡ true → option_map (λ _. shown (meaning book q)) o ≡ Some (shown (meaning book q))
+  some_shown : (q : Cell) (o : Option Content) → has_formula o ≡ true → option_map (λ _. shown (meaning alone book q)) o ≡ Some (shown (meaning alone book q))
   some_shown q None h = cc
   some_shown q (Some x) h = refl
 
@@ -135,25 +135,25 @@ sorted_where [] ordered = refl
 sorted_where (e ∷ es) ordered =
     and_from _ _ (below_where e.0 es (sorted_head cell_cmp e.0 (keys_of es) ordered)) (sorted_where es (sorted_tail cell_cmp e.0 (keys_of es) ordered))
 
-shown_keys : (book es : List (Cell × Content)) → keys_of (map (λ e. (e.0, shown (meaning book e.0))) es) ≡ keys_of es
+shown_keys : (book es : List (Cell × Content)) → keys_of (map (λ e. (e.0, shown (meaning alone book e.0))) es) ≡ keys_of es
 shown_keys book [] = refl
 shown_keys book (e ∷ es) = ap (λ ks. e.0 ∷ ks) (shown_keys book es)
 
-shown_lookup : (book es : List (Cell × Content)) (q : Cell) → lookup (same_cell q) (map (λ e. (e.0, shown (meaning book e.0))) es) ≡ option_map (λ _. shown (meaning book q)) (lookup (same_cell q) es)
+shown_lookup : (book es : List (Cell × Content)) (q : Cell) → lookup (same_cell q) (map (λ e. (e.0, shown (meaning alone book e.0))) es) ≡ option_map (λ _. shown (meaning alone book q)) (lookup (same_cell q) es)
 shown_lookup book [] q = refl
 shown_lookup book (e ∷ es) q = elim (same_cell q e.0) as (λ b. same_cell q e.0 ≡ b
-    → cond b (Some (shown (meaning book e.0))) (lookup (same_cell q) (map (λ d. (d.0, shown (meaning book d.0))) es)) ≡ option_map (λ _. shown (meaning book q)) (cond b (Some e.1) (lookup (same_cell q) es))) [
-      | true ↦ λ is. ap (λ c. Some (shown (meaning book c))) (sym (same_cell_is q e.0 is))
+    → cond b (Some (shown (meaning alone book e.0))) (lookup (same_cell q) (map (λ d. (d.0, shown (meaning alone book d.0))) es)) ≡ option_map (λ _. shown (meaning alone book q)) (cond b (Some e.1) (lookup (same_cell q) es))) [
+      | true ↦ λ is. ap (λ c. Some (shown (meaning alone book c))) (sym (same_cell_is q e.0 is))
       | false ↦ λ _. shown_lookup book es q
     ] refl
 
 -- what a sheet in order shows of each cell determines it
-pub sheet-is : (book : List (Cell × Content)) (sheet : List (Cell × Option Value)) → IsInOrder book → IsStrictlySortedBy cell_cmp (keys_of sheet) → ((c : Cell) → ShowsMeaning book sheet c) → sheet ≡ sheet_of book
+pub sheet-is : (book : List (Cell × Content)) (sheet : List (Cell × Option Value)) → IsInOrder book → IsStrictlySortedBy cell_cmp (keys_of sheet) → ((c : Cell) → ShowsMeaning book sheet c) → sheet ≡ sheet_of alone book
 sheet-is book sheet book_ordered sheet_ordered shows =
-    same_entries cell_cmp cells_total exact_cells sheet (sheet_of book)
+    same_entries cell_cmp cells_total exact_cells sheet (sheet_of alone book)
     (subst T (sym (sorted_where sheet sheet_ordered)) tt)
-    (subst T (sym (sorted_where (sheet_of book) (subst (IsStrictlySortedBy cell_cmp) (sym (shown_keys book book)) book_ordered))) tt)
-    (λ q. find_is q sheet ∙ shows q ∙ sym (find_is q (sheet_of book) ∙ shown_lookup book book q))
+    (subst T (sym (sorted_where (sheet_of alone book) (subst (IsStrictlySortedBy cell_cmp) (sym (shown_keys book book)) book_ordered))) tt)
+    (λ q. find_is q sheet ∙ shows q ∙ sym (find_is q (sheet_of alone book) ∙ shown_lookup book book q))
 
 -- the reply and the state after a command, while no recalculation runs and while one does
 pub rest_reply : (s : State) (command : Command) → s.running ≡ false → reply_to s command ≡ reply_at_rest s command

@@ -3,6 +3,7 @@ pub mod Marks
 pub mod Appending
 pub mod Endings
 pub mod Evaluations
+pub mod Jobs
 pub mod Showing
 pub mod Completing
 pub mod GivenLaws

@@ -10,7 +10,7 @@ use Rattle.std.proofs.lemmas.Str.{utf8_valid_len-IsUtf8}
 use Rattle.formula_parse.specs.declared.nodes.Node.{Node}
 use Rattle.formula_parse.specs.declared.faults.ParseFault.{ParseFault}
 use Rattle.formula_parse.specs.declared.faults.ParseFault.TheVariants as faults
-use Rattle.formula_parse.specs.Reading.{formula_of, is_utf8, parsed}
+use Rattle.formula_parse.specs.Reading.{formula_of, parsed}
 use Rattle.rtdhost.specs.declared.script.Parsed.{Parsed}
 use Rattle.rtdhost.specs.declared.script.Parsed.TheVariants.{Empty}
 use Rattle.rtdhost.specs.declared.script.BadLine.{BadLine}
@@ -35,10 +35,15 @@ said_by_words line short some utf8 =
 pub said_so : (text line : List ℕ) (r : Result Parsed BadLine) → text ≡ line → length line ≤ 160000 → eqb (length line) 0 ≡ false → IsUtf8 line → IfOk r (λ said. words_said text ≡ Some said) → IfOk r (λ said. line_said line ≡ Some said)
 said_so text line r is short some utf8 h = subst (λ o. IfOk r (λ said. o ≡ Some said)) (ap words_said is ∙ sym (said_by_words line short some utf8)) h
 
+-- none is left of none
+either_way : (b : Bool) (o : Option Node) → o ≡ None → cond b o None ≡ None
+either_way true o h = h
+either_way false o h = refl
+
 -- a text of which nothing is parsed is no formula
 none_said : (text : List ℕ) (fault : ParseFault) → Err fault ≡ parsed text → formula_of text ≡ None
 unfolding formula_of
-none_said text fault is = elim (is_utf8 text) as (λ b. cond b (result_ok (parsed text)) None ≡ None) [ true ↦ sym (ap result_ok is) | false ↦ refl ]
+none_said text fault is = either_way _ (result_ok (parsed text)) (sym (ap result_ok is))
 
 -- a text that parses to a fault is no formula
 pub no_formula : (text : List ℕ) (r : Result Node ParseFault) (fault : ParseFault) → r ≡ Err fault → fault ≢ faults.Memory → (r ≡ Err faults.Memory) ⊎ (r ≡ parsed text) → formula_of text ≡ None

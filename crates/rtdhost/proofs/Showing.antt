@@ -11,22 +11,22 @@ use Rattle.cell_values.specs.declared.values.Value.{Value}
 use Rattle.cell_values.specs.declared.values.Value.TheVariants.{Num as Number', Text as Text', Bool as Bool', Error as Error'}
 use Rattle.workbook.specs.declared.contents.Content.{Content}
 use Rattle.workbook.specs.declared.contents.Content.TheVariants as contents
-use Rattle.workbook.specs.Book.{content_at, has_formula, is_formula, formula_count}
-use Rattle.workbook.specs.Meaning.{meaning, shown}
+use Rattle.workbook.specs.Book.{IsInOrder, content_at, has_formula, is_formula}
+use Rattle.workbook.specs.Meaning.{Val, meaning, shown}
 use Rattle.workbook.specs.Stale.{is_among}
+use Rattle.workbook.specs.State.{alone}
 use Rattle.workbook.proofs.Cells.{same_cell_is, same_cells}
-use Rattle.workbook.proofs.Meanings.{shows_value}
-use Rattle.rtdhost.proofs.Evaluations.{not_circular, value_constant}
+use Rattle.rtdhost.proofs.Evaluations.{constant_means}
 use Rattle.rtdhost.specs.Inputs.{IsEvaluated, known_content}
 use Rattle.rtdhost.specs.Publishing.{ShowsMeaning, KeepsMeanings, ShowsStale, ShowsAt, ShowsIfStale}
 
 -- a cell is shown its meaning
 pub shows-at : (book : List (Cell × Content)) (old new : List (Cell × Option Value)) (cell : Cell) (value : Option Value) → ShowsAt old new cell value
-    → Some value ≡ option_map (λ _. shown (meaning book cell)) (content_at book cell) → ShowsMeaning book new cell
+    → Some value ≡ option_map (λ _. shown (meaning alone book cell)) (content_at book cell) → ShowsMeaning book new cell
 shows-at book old new cell value at right = at cell ∙ ap (λ b. cond b (Some value) (lookup (same_cell cell) old)) (same_cells.refl cell) ∙ right
 
 pub keeps-at : (book : List (Cell × Content)) (old new : List (Cell × Option Value)) (cell : Cell) (value : Option Value) → ShowsAt old new cell value
-    → Some value ≡ option_map (λ _. shown (meaning book cell)) (content_at book cell) → KeepsMeanings book old new
+    → Some value ≡ option_map (λ _. shown (meaning alone book cell)) (content_at book cell) → KeepsMeanings book old new
 keeps-at book old new cell value at right q h = elim (same_cell cell q) as (λ b. same_cell cell q ≡ b → ShowsMeaning book new q) [
   | true ↦ λ e. subst (λ c. ShowsMeaning book new c) (same_cell_is cell q e) (shows-at book old new cell value at right)
   | false ↦ λ e. at q ∙ ap (λ b. cond b (Some value) (lookup (same_cell q) old)) e ∙ h
@@ -38,7 +38,7 @@ TakesOff old new cell = (q : Cell) → lookup (same_cell q) new ≡ cond (same_c
 
 pub shows-off : (book : List (Cell × Content)) (old new : List (Cell × Option Value)) (cell : Cell) → TakesOff old new cell → content_at book cell ≡ None → ShowsMeaning book new cell
 shows-off book old new cell off none =
-    off cell ∙ ap (λ b. cond b None (lookup (same_cell cell) old)) (same_cells.refl cell) ∙ sym (ap (option_map (λ _. shown (meaning book cell))) none)
+    off cell ∙ ap (λ b. cond b None (lookup (same_cell cell) old)) (same_cells.refl cell) ∙ sym (ap (option_map (λ _. shown (meaning alone book cell))) none)
 
 pub keeps-off : (book : List (Cell × Content)) (old new : List (Cell × Option Value)) (cell : Cell) → TakesOff old new cell → content_at book cell ≡ None → KeepsMeanings book old new
 keeps-off book old new cell off none q h = elim (same_cell cell q) as (λ b. same_cell cell q ≡ b → ShowsMeaning book new q) [
@@ -47,29 +47,21 @@ keeps-off book old new cell off none q h = elim (same_cell cell q) as (λ b. sam
 ] refl
 
 -- what a constant shows
-pub constant-right : (book : List (Cell × Content)) (cell : Cell) (x : Content) (v : Value) → content_at book cell ≡ Some x → known_content (Some x) None ≡ Some v
-    → Some (Some v) ≡ option_map (λ _. shown (meaning book cell)) (content_at book cell)
-constant-right book cell (contents.Num n) v found is =
+pub constant-right : (book : List (Cell × Content)) → IsInOrder book → (cell : Cell) (x : Content) (v : Value) → content_at book cell ≡ Some x → known_content (Some x) None ≡ Some v
+    → Some (Some v) ≡ option_map (λ _. shown (meaning alone book cell)) (content_at book cell)
+constant-right book ordered cell (contents.Num n) v found is =
     let same : Number' n ≡ v = cc in
-    let straight = not_circular book (formula_count book) cell (ap has_formula found) in
-    sym (ap (option_map (λ _. shown (meaning book cell))) found
-    ∙ ap Some (ap shown (shows_value book cell straight) ∙ ap Some (value_constant book (formula_count book) cell (Some (contents.Num n)) found refl ∙ same)))
-constant-right book cell (contents.Text t) v found is =
+    sym (ap (option_map (λ _. shown (meaning alone book cell))) found ∙ ap (λ m. Some (shown m)) (constant_means book ordered cell (Some (contents.Num n)) found refl ∙ ap Val same))
+constant-right book ordered cell (contents.Text t) v found is =
     let same : Text' t ≡ v = cc in
-    let straight = not_circular book (formula_count book) cell (ap has_formula found) in
-    sym (ap (option_map (λ _. shown (meaning book cell))) found
-    ∙ ap Some (ap shown (shows_value book cell straight) ∙ ap Some (value_constant book (formula_count book) cell (Some (contents.Text t)) found refl ∙ same)))
-constant-right book cell (contents.Bool b) v found is =
+    sym (ap (option_map (λ _. shown (meaning alone book cell))) found ∙ ap (λ m. Some (shown m)) (constant_means book ordered cell (Some (contents.Text t)) found refl ∙ ap Val same))
+constant-right book ordered cell (contents.Bool b) v found is =
     let same : Bool' b ≡ v = cc in
-    let straight = not_circular book (formula_count book) cell (ap has_formula found) in
-    sym (ap (option_map (λ _. shown (meaning book cell))) found
-    ∙ ap Some (ap shown (shows_value book cell straight) ∙ ap Some (value_constant book (formula_count book) cell (Some (contents.Bool b)) found refl ∙ same)))
-constant-right book cell (contents.Error e) v found is =
+    sym (ap (option_map (λ _. shown (meaning alone book cell))) found ∙ ap (λ m. Some (shown m)) (constant_means book ordered cell (Some (contents.Bool b)) found refl ∙ ap Val same))
+constant-right book ordered cell (contents.Error e) v found is =
     let same : Error' e ≡ v = cc in
-    let straight = not_circular book (formula_count book) cell (ap has_formula found) in
-    sym (ap (option_map (λ _. shown (meaning book cell))) found
-    ∙ ap Some (ap shown (shows_value book cell straight) ∙ ap Some (value_constant book (formula_count book) cell (Some (contents.Error e)) found refl ∙ same)))
-constant-right book cell (contents.Formula tree) v found is = cc
+    sym (ap (option_map (λ _. shown (meaning alone book cell))) found ∙ ap (λ m. Some (shown m)) (constant_means book ordered cell (Some (contents.Error e)) found refl ∙ ap Val same))
+constant-right book ordered cell (contents.Formula tree) v found is = cc
 
 -- a content that is no constant is a formula
 pub no-constant : (book : List (Cell × Content)) (cell : Cell) (x : Content) → content_at book cell ≡ Some x → known_content (Some x) None ≡ None → is_formula book cell ≡ true
@@ -93,10 +85,10 @@ constants-next book changed rest after old new cell is keeps shows so_far q amon
 
 -- what a stale cell shows
 pub stale-right : (book : List (Cell × Content)) (stale : List Cell) (finished : List (Cell × Value)) → IsEvaluated book stale finished → (cell : Cell) → is_among stale cell ≡ true → is_formula book cell ≡ true
-    → Some (lookup (same_cell cell) finished) ≡ option_map (λ _. shown (meaning book cell)) (content_at book cell)
+    → Some (lookup (same_cell cell) finished) ≡ option_map (λ _. shown (meaning alone book cell)) (content_at book cell)
 stale-right book stale finished evaluated cell e formula = ap Some (evaluated cell e) ∙ with_content (content_at book cell) formula
   where
-    with_content : (o : Option Content) → has_formula o ≡ true → Some (shown (meaning book cell)) ≡ option_map (λ _. shown (meaning book cell)) o
+    with_content : (o : Option Content) → has_formula o ≡ true → Some (shown (meaning alone book cell)) ≡ option_map (λ _. shown (meaning alone book cell)) o
     with_content None h = cc
     with_content (Some x) h = refl
 

@@ -1,5 +1,5 @@
 -- Which cells lie in areas, and which of them is next.
-use Rattle.std.specs.Prelude.{◌≡◌, Bool, true, false, Option, None, Some, List, ⊥}
+use Rattle.std.specs.Prelude.{◌≡◌, Bool, true, false, Option, None, Some, List}
 use Rattle.std.specs.List.{list_any}
 use Rattle.std.specs.Ordering.{is_lt}
 use Rattle.cell_refs.specs.declared.areas.Area.{Area}

@@ -15,7 +15,7 @@ returns-then-not-branch c others = idle-evaluated _ c.requires.ordered _ _ other
 pub loop-preserved : goal.loop-preserved
 loop-preserved c others = (
   c.in_ok-evaluate_pass.ensures.meant c.requires.ordered others (c.loop.invariant others).0,
-  finished-next _ c.requires.ordered _ _ others c.requires.stale _ _ _ _ c.requires.formulas (c.loop.invariant others).1 c.in_ok-evaluate_pass.ensures.ready,
+  finished-next _ c.requires.ordered _ _ others c.requires.stale _ _ _ _ c.requires.formulas (c.loop.invariant others).0 (c.loop.invariant others).1 c.in_ok-evaluate_pass.ensures.ready,
 )
 
 pub returns : goal.returns
