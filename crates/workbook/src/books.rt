@@ -39,7 +39,6 @@ pub struct Book {
 impl Model for Book {
     ghost use Rattle.std.specs.Prelude.{◌≡◌, ◌≤◌, length};
     ghost use Rattle.workbook.specs.Book.{BookState, formula_count, IsInOrder, CELL_LIMIT, FORMULA_LIMIT};
-
     ghost use Rattle.formula_parse.specs.contracts.nodes.Node as e;
     ghost use Rattle.std.specs.Coded.{codes};
 

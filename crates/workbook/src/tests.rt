@@ -4,8 +4,9 @@ use super::replies::SheetCells;
 use addin_types::{Kind, Registration};
 use cell_refs::Cell;
 use cell_values::{ErrorKind, Name, Text, Value};
+use formula_parse::{parse, print};
+use std::alloc::Global;
 use std::test::Fail;
-use sum_formulas::parse;
 
 fn cell(sheet: u8, row: u32, col: u16) -> Cell {
     Cell { sheet, row, col }
@@ -19,11 +20,14 @@ fn number_of(content: Option<&Content>) -> Option<i64> {
     }
 }
 
-/// How many terms a formula has.
-fn terms_of(content: Option<&Content>) -> Option<usize> {
+/// Whether a content is the formula of this text.
+fn is_formula(alloc: Global, content: Option<&Content>, text: &str) -> bool {
     match content {
-        Some(Content::Formula(tree)) => Some(tree.terms().len()),
-        _ => None,
+        Some(Content::Formula(tree)) => {
+            let mut out = Vec::new(alloc);
+            print(tree, &mut out).is_ok() && out.as_slice() == text.as_bytes()
+        }
+        _ => false,
     }
 }
 
@@ -45,7 +49,7 @@ fn a_cell_has_the_content_that_was_set_last(rt: HostRuntime) -> Result<(), Fail>
     assert_eq!(rt; number_of(book.get(first)), Some(1));
     let formula = parse(rt.alloc(), "=A2+3")?;
     assert!(rt; book.set(first, Content::Formula(formula)).is_ok());
-    assert_eq!(rt; terms_of(book.get(first)), Some(2));
+    assert!(rt; is_formula(rt.alloc(), book.get(first), "=A2+3"));
     assert!(rt; book.set(first, Content::Num(-999_999_999_999_999)).is_ok());
     assert_eq!(rt; number_of(book.get(first)), Some(-999_999_999_999_999));
     assert_eq!(rt; number_of(book.get(second)), Some(2));
@@ -105,7 +109,7 @@ fn a_cleared_cell_has_no_content(rt: HostRuntime) -> Result<(), Fail> {
             .is_ok()
     );
     assert!(rt; book.set(second, Content::Num(2)).is_ok());
-    assert_eq!(rt; terms_of(book.clear(first).as_ref()), Some(2));
+    assert!(rt; is_formula(rt.alloc(), book.clear(first).as_ref(), "=A2+3"));
     assert!(rt; book.get(first).is_none());
     assert_eq!(rt; (book.cells(), book.formulas()), (1, 0));
     assert!(rt; book.clear(first).is_none());
@@ -123,7 +127,9 @@ fn a_refusal_gives_the_content_back(rt: HostRuntime) -> Result<(), Fail> {
     }
     let added = Content::Formula(parse(rt.alloc(), "=A1+A2+A3")?);
     match book.set(cell(1, 1, 2), added) {
-        Err(SetFault::FormulaLimit(back)) => assert_eq!(rt; terms_of(Some(&back)), Some(3)),
+        Err(SetFault::FormulaLimit(back)) => {
+            assert!(rt; is_formula(rt.alloc(), Some(&back), "=A1+A2+A3"))
+        }
         _ => panic!(rt; "one formula too many was taken"),
     }
     let replaced = Content::Formula(parse(rt.alloc(), "=A2")?);
@@ -192,6 +198,10 @@ fn cells_go_by_sheet_then_row_then_column(rt: HostRuntime) {
     }
     assert_eq!(rt; book.next_cell(last), None);
     assert_eq!(rt; book.next_cell(Some(cell(1, 2, 2))), Some(cell(1, 10, 1)));
+    assert_eq!(rt; book.first_from(cell(1, 2, 1)), Some(cell(1, 2, 1)));
+    assert_eq!(rt; book.first_from(cell(1, 2, 2)), Some(cell(1, 10, 1)));
+    assert_eq!(rt; book.first_from(cell(1, 10, 2)), Some(cell(2, 1, 1)));
+    assert_eq!(rt; book.first_from(cell(2, 1, 2)), None);
 }
 
 #[test]
