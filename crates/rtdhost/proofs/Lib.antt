@@ -1,4 +1,7 @@
 -- Laws that the proofs of this crate share.
+pub mod AreaCells
+pub mod CellsAhead
+pub mod Gathered
 pub mod Marks
 pub mod Appending
 pub mod Endings

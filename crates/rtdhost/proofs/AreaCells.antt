@@ -1,0 +1,64 @@
+-- The cells of areas as one list: a cell lies in the areas where the list has it.
+use Rattle.std.proofs.Common.{◌≡◌, Bool, true, false, ◌||◌, List, [], ◌∷◌, flat_map, get_or, ⊎_elim, arith, refl, ap, ◌∙◌}
+use Rattle.std.specs.List.{All, AllByRecursion, Contains, list_all}
+use Rattle.std.proofs.lemmas.Bool.{or_cases, and_parts, and_from}
+use Rattle.std.proofs.lemmas.Bool.Decides.{nat_tests}
+use Rattle.std.proofs.lemmas.List.Elements.{Contains-append_cases, Contains-append_left, Contains-append_right, Contains-get_or, recursion_from_All}
+use Rattle.std.proofs.lemmas.List.Folds.{list_all_at}
+use Rattle.cell_refs.specs.declared.areas.Area.{Area}
+use Rattle.cell_refs.specs.declared.grid.Cell.{Cell}
+use Rattle.cell_refs.specs.Area.{IsInside, area_has, cells_of}
+use Rattle.cell_refs.proofs.Listing.{listed_inside, inside_listed}
+use Rattle.rtdhost.specs.Scanning.{lies_in}
+
+-- the test finds a cell between the corners
+has_inside : (area : Area) (q : Cell) → area_has area q ≡ true → IsInside area q
+has_inside area q h = record {
+  sheet = grind (arith, nat_tests);
+  below = grind (arith, nat_tests);
+  above = grind (arith, nat_tests);
+  after = grind (arith, nat_tests);
+  before = grind (arith, nat_tests);
+}
+
+inside_has : (area : Area) (q : Cell) → IsInside area q → area_has area q ≡ true
+inside_has area q h = grind (arith, nat_tests, h.sheet, h.below, h.above, h.after, h.before)
+
+or_here : (a b : Bool) → a ≡ true → (a || b) ≡ true
+or_here true b h = refl
+or_here false b h = cc
+
+or_there : (a b : Bool) → b ≡ true → (a || b) ≡ true
+or_there true b h = refl
+or_there false b h = h
+
+-- the list has each cell that lies in the areas
+pub lies_listed : (areas : List Area) (q : Cell) → lies_in areas q ≡ true → Contains (flat_map cells_of areas) q
+lies_listed [] q h = absurd (cc)
+lies_listed (area ∷ others) q h = ⊎_elim
+    (λ here. Contains-append_left (cells_of area) (flat_map cells_of others) q (inside_listed area q (has_inside area q here)))
+    (λ later. Contains-append_right (cells_of area) (flat_map cells_of others) q (lies_listed others q later))
+    (or_cases (area_has area q) (lies_in others q) h)
+
+none_listed : (q : Cell) → Contains [] q → ⊥
+none_listed q (k, l, e) = omega arith
+
+-- and no other
+pub listed_lies : (areas : List Area) (q : Cell) → Contains (flat_map cells_of areas) q → lies_in areas q ≡ true
+listed_lies [] q h = absurd (none_listed q h)
+listed_lies (area ∷ others) q h = ⊎_elim
+    (λ here. or_here (area_has area q) (lies_in others q) (inside_has area q (listed_inside area q here)))
+    (λ later. or_there (area_has area q) (lies_in others q) (listed_lies others q later))
+    (Contains-append_cases (cells_of area) (flat_map cells_of others) q h)
+
+-- what holds of each cell that lies in the areas holds along the list
+pub along_areas : (P : Cell → Type 0) (areas : List Area) → ((q : Cell) → lies_in areas q ≡ true → P q) → AllByRecursion P (flat_map cells_of areas)
+along_areas P areas each = recursion_from_All P (flat_map cells_of areas) (λ k d below.
+    each (get_or (flat_map cells_of areas) k d) (listed_lies areas _ (Contains-get_or (flat_map cells_of areas) k d below)))
+
+failing : (p : Cell → Bool) (cells : List Cell) (q : Cell) → Contains cells q → p q ≡ false → list_all p cells ≡ false
+failing p cells q (k, below, is) h = list_all_at p cells k q below (ap p is ∙ h)
+
+-- a test that a cell of the areas fails doesn't hold of all
+pub fails_among : (p : Cell → Bool) (areas : List Area) (q : Cell) → lies_in areas q ≡ true → p q ≡ false → list_all p (flat_map cells_of areas) ≡ false
+fails_among p areas q lies h = failing p (flat_map cells_of areas) q (lies_listed areas q lies) h
