@@ -1,7 +1,7 @@
 -- The cells of areas as one list: a cell lies in the areas where the list has it.
 use Rattle.std.proofs.Common.{◌≡◌, Bool, true, false, ◌||◌, List, [], ◌∷◌, flat_map, get_or, ⊎_elim, arith, refl, ap, ◌∙◌}
-use Rattle.std.specs.List.{All, AllByRecursion, Contains, list_all}
-use Rattle.std.proofs.lemmas.Bool.{or_cases, and_parts, and_from}
+use Rattle.std.specs.List.{AllByRecursion, Contains, list_all}
+use Rattle.std.proofs.lemmas.Bool.{or_cases}
 use Rattle.std.proofs.lemmas.Bool.Decides.{nat_tests}
 use Rattle.std.proofs.lemmas.List.Elements.{Contains-append_cases, Contains-append_left, Contains-append_right, Contains-get_or, recursion_from_All}
 use Rattle.std.proofs.lemmas.List.Folds.{list_all_at}
@@ -21,9 +21,11 @@ has_inside area q h = record {
   before = grind (arith, nat_tests);
 }
 
+-- and every such cell
 inside_has : (area : Area) (q : Cell) → IsInside area q → area_has area q ≡ true
 inside_has area q h = grind (arith, nat_tests, h.sheet, h.below, h.above, h.after, h.before)
 
+-- an alternative that holds makes the whole hold
 or_here : (a b : Bool) → a ≡ true → (a || b) ≡ true
 or_here true b h = refl
 or_here false b h = cc
@@ -40,6 +42,7 @@ lies_listed (area ∷ others) q h = ⊎_elim
     (λ later. Contains-append_right (cells_of area) (flat_map cells_of others) q (lies_listed others q later))
     (or_cases (area_has area q) (lies_in others q) h)
 
+-- an empty list has no cell
 none_listed : (q : Cell) → Contains [] q → ⊥
 none_listed q (k, l, e) = omega arith
 
@@ -56,9 +59,10 @@ pub along_areas : (P : Cell → Type 0) (areas : List Area) → ((q : Cell) → 
 along_areas P areas each = recursion_from_All P (flat_map cells_of areas) (λ k d below.
     each (get_or (flat_map cells_of areas) k d) (listed_lies areas _ (Contains-get_or (flat_map cells_of areas) k d below)))
 
+-- a test that one of the cells fails doesn't hold of all
 failing : (p : Cell → Bool) (cells : List Cell) (q : Cell) → Contains cells q → p q ≡ false → list_all p cells ≡ false
 failing p cells q (k, below, is) h = list_all_at p cells k q below (ap p is ∙ h)
 
--- a test that a cell of the areas fails doesn't hold of all
+-- so at a cell that lies in the areas
 pub fails_among : (p : Cell → Bool) (areas : List Area) (q : Cell) → lies_in areas q ≡ true → p q ≡ false → list_all p (flat_map cells_of areas) ≡ false
 fails_among p areas q lies h = failing p (flat_map cells_of areas) q (lies_listed areas q lies) h

@@ -1,8 +1,7 @@
 -- The cells of a book that aren't less than a place: the first of them, and how many there are.
-use Rattle.std.proofs.Common.{◌≡◌, ℕ, ◌+◌, ◌<◌, ◌≤◌, ◌⊎◌, inl, inr, Bool, true, false, cond, List, [], ◌∷◌, length, Option, Some, None, is_some, arith, refl, ap, sym, subst, ⊎_elim, ◌∙◌}
+use Rattle.std.proofs.Common.{◌≡◌, ℕ, ◌<◌, ◌≤◌, ◌⊎◌, inl, inr, Bool, true, false, cond, List, [], ◌∷◌, length, Option, Some, None, is_some, arith, refl, ap, sym, subst, ⊎_elim, ◌∙◌}
 use Rattle.std.specs.List.{AllByRecursion, filter}
 use Rattle.std.specs.Map.{keys_of, lookup}
-use Rattle.std.specs.List.Sorted.{IsStrictlySortedBy}
 use Rattle.std.specs.Ordering.{is_lt, is_le, is_eq, ordering_reverse}
 use Rattle.std.specs.declared.cmp.Ordering.{Ordering}
 use Rattle.std.specs.declared.cmp.Ordering.TheVariants.{Less, Equal, Greater}
@@ -16,11 +15,13 @@ use Rattle.workbook.specs.Book.{IsInOrder, content_at, cells_from, first_cell, f
 use Rattle.rtdhost.specs.Scanning.{is_less}
 
 -- ---- the order of cells, as tests
-below_is : (o : Ordering) → is_lt o ≡ true → o ≡ Less
+-- the test finds the answer Less alone
+pub below_is : (o : Ordering) → is_lt o ≡ true → o ≡ Less
 below_is Less h = refl
 below_is Equal h = cc
 below_is Greater h = cc
 
+-- what each answer says of the order seen from the other cell
 turned_at_least : (o p : Ordering) → p ≡ ordering_reverse o → is_lt o ≡ false → is_le p ≡ true
 turned_at_least Less p e h = cc
 turned_at_least Equal p e h = ap is_le e
@@ -36,6 +37,7 @@ turned_not_less Less p e h = ap is_lt e
 turned_not_less Equal p e h = ap is_lt e
 turned_not_less Greater p e h = cc
 
+-- what each answer leads to
 less_at_least : (o : Ordering) → is_lt o ≡ true → is_le o ≡ true
 less_at_least Less h = refl
 less_at_least Equal h = cc
@@ -51,46 +53,51 @@ equal_at_least Less h = cc
 equal_at_least Equal h = refl
 equal_at_least Greater h = cc
 
--- a cell that isn't less than another
-pub at_least : (a b : Cell) → is_less a b ≡ false → is_le (cell_cmp b a) ≡ true
+-- where a cell isn't less than another, that one isn't greater
+at_least : (a b : Cell) → is_less a b ≡ false → is_le (cell_cmp b a) ≡ true
 at_least a b h = turned_at_least (cell_cmp a b) (cell_cmp b a) (cells_total.antisymm b a) h
 
--- and one that is
+-- where a cell is greater than another, that one is less
 not_at_least : (a b : Cell) → is_le (cell_cmp b a) ≡ false → is_less a b ≡ true
 not_at_least a b h = turned_less (cell_cmp b a) (cell_cmp a b) (cells_total.antisymm a b) h
 
+-- where a cell isn't greater than another, that one isn't less
 not_less : (a b : Cell) → is_le (cell_cmp b a) ≡ true → is_less a b ≡ false
 not_less a b h = turned_not_less (cell_cmp b a) (cell_cmp a b) (cells_total.antisymm a b) h
 
 -- no cell is less than itself
-pub not_less_itself : (c : Cell) → is_less c c ≡ false
+not_less_itself : (c : Cell) → is_less c c ≡ false
 not_less_itself c = not_less c c (equal_at_least (cell_cmp c c) (same_cells.refl c))
 
 -- a lesser cell is another
 pub less_differs : (a b : Cell) → is_less a b ≡ true → same_cell a b ≡ false
 less_differs a b h = less_other (cell_cmp a b) h
 
+-- less than a cell that isn't greater than a third, by the answer of their comparison
 less_to : (a b c : Cell) (o : Ordering) → cell_cmp b c ≡ o → is_le o ≡ true → is_less a b ≡ true → is_less a c ≡ true
 less_to a b c Less e h less = ap is_lt (cells_total.trans a b c (below_is (cell_cmp a b) less) e)
 less_to a b c Equal e h less = subst (λ d. is_less a d ≡ true) (exact_cells b c e) less
 less_to a b c Greater e h less = cc
 
--- less than a cell that isn't greater than a third
+-- less than a cell that isn't greater than a third: less than that
 pub less_then_at_least : (a b c : Cell) → is_less a b ≡ true → is_le (cell_cmp b c) ≡ true → is_less a c ≡ true
 less_then_at_least a b c less h = less_to a b c (cell_cmp b c) refl h less
 
+-- the order is transitive
 pub less_then_less : (a b c : Cell) → is_less a b ≡ true → is_less b c ≡ true → is_less a c ≡ true
 less_then_less a b c less more = less_then_at_least a b c less (less_at_least (cell_cmp b c) more)
 
+-- not greater than a cell that is less than a third, by the answer of the comparison
 to_less : (a b c : Cell) (o : Ordering) → cell_cmp a b ≡ o → is_le o ≡ true → is_less b c ≡ true → is_less a c ≡ true
 to_less a b c Less e h less = less_then_less a b c (ap is_lt e) less
 to_less a b c Equal e h less = subst (λ d. is_less d c ≡ true) (sym (exact_cells a b e)) less
 to_less a b c Greater e h less = cc
 
--- not greater than a cell that is less than a third
-pub at_least_then_less : (a b c : Cell) → is_le (cell_cmp a b) ≡ true → is_less b c ≡ true → is_less a c ≡ true
+-- not greater than a cell that is less than a third: less than that
+at_least_then_less : (a b c : Cell) → is_le (cell_cmp a b) ≡ true → is_less b c ≡ true → is_less a c ≡ true
 at_least_then_less a b c h less = to_less a b c (cell_cmp a b) refl h less
 
+-- a cell that another isn't greater than is that one or greater, by the answer of the comparison
 itself_or_less : (a b : Cell) (o : Ordering) → cell_cmp a b ≡ o → is_le o ≡ true → (b ≡ a) ⊎ (is_less a b ≡ true)
 itself_or_less a b Less e h = inr (ap is_lt e)
 itself_or_less a b Equal e h = inl (sym (exact_cells a b e))
@@ -108,11 +115,12 @@ found_where q e es h = elim (same_cell q e.0) as (λ b. same_cell q e.0 ≡ b �
   | false ↦ λ _ later. inr later
 ] refl h
 
+-- a cell that is found stays found behind one more entry
 found_later : {X : Type 0} (q : Cell) (e : Cell × X) (es : List (Cell × X)) → is_some (lookup (same_cell q) es) ≡ true → is_some (lookup (same_cell q) (e ∷ es)) ≡ true
 found_later q e es h = elim (same_cell q e.0) as (λ b. is_some (cond b (Some e.1) (lookup (same_cell q) es)) ≡ true) [ true ↦ refl | false ↦ h ]
 
 -- what holds of each key holds of each cell that is found
-pub at_key : {X : Type 0} (P : Cell → Type 0) (es : List (Cell × X)) (q : Cell) → is_some (lookup (same_cell q) es) ≡ true → AllByRecursion P (keys_of es) → P q
+at_key : {X : Type 0} (P : Cell → Type 0) (es : List (Cell × X)) (q : Cell) → is_some (lookup (same_cell q) es) ≡ true → AllByRecursion P (keys_of es) → P q
 at_key P [] q h each = absurd (cc)
 at_key P (e ∷ es) q h each = ⊎_elim (λ is. subst P (sym is) each.0) (λ later. at_key P es q later each.1) (found_where q e es h)
 
@@ -122,6 +130,7 @@ pub record IsFirstFrom (book : List (Cell × Content)) (seek cell : Cell) : Type
   pub reached : is_le (cell_cmp seek cell) ≡ true
   pub least : (q : Cell) → is_some (content_at book q) ≡ true → is_less q seek ≡ false → is_less q cell ≡ false
 
+-- the first entry, where it isn't less than the place
 first_here : (seek : Cell) (e : Cell × Content) (es : List (Cell × Content)) → IsInOrder (e ∷ es) → is_le (cell_cmp seek e.0) ≡ true → IsFirstFrom (e ∷ es) seek e.0
 first_here seek e es ordered reached = record {
   content = ap (λ b. is_some (cond b (Some e.1) (lookup (same_cell e.0) es))) (same_cells.refl e.0);
@@ -136,6 +145,7 @@ first_here seek e es ordered reached = record {
     all_greater c [] each = tt
     all_greater c (k ∷ ks) each = (not_less k c (ap is_le each.0), all_greater c ks each.1)
 
+-- an entry that is less than the place changes nothing
 first_later : (seek cell : Cell) (e : Cell × Content) (es : List (Cell × Content)) → is_le (cell_cmp seek e.0) ≡ false → IsFirstFrom es seek cell → IsFirstFrom (e ∷ es) seek cell
 first_later seek cell e es passed first = record {
   content = found_later cell e es first.content;
@@ -146,6 +156,7 @@ first_later seek cell e es passed first = record {
       (found_where q e es has);
 }
 
+-- what the search finds is the first from a place on
 pub first-is : (seek cell : Cell) (es : List (Cell × Content)) → IsInOrder es → first_from es seek ≡ Some cell → IsFirstFrom es seek cell
 first-is seek cell [] ordered h = absurd (cc)
 first-is seek cell (e ∷ es) ordered h =
@@ -173,6 +184,7 @@ abbrev pub cells_ahead : List (Cell × Content) → Option Cell → ℕ
 cells_ahead book None = 0
 cells_ahead book (Some from) = length (cells_from from book)
 
+-- one entry more, of which the stricter test keeps no more
 fewer_step : (a b : Bool) (e : Cell × Content) (xs ys : List (Cell × Content)) → (a ≡ true → b ≡ true) → length xs ≤ length ys → length (cond a (e ∷ xs) xs) ≤ length (cond b (e ∷ ys) ys)
 fewer_step true true e xs ys leads h = omega arith
 fewer_step true false e xs ys leads h = let no : false ≡ true = leads refl in absurd (cc)
@@ -184,6 +196,7 @@ fewer : (p r : Cell → Bool) → ((k : Cell) → p k ≡ true → r k ≡ true)
 fewer p r leads [] = omega arith
 fewer p r leads (e ∷ es) = fewer_step (p e.0) (r e.0) e (filter (λ d. p d.0) es) (filter (λ d. r d.0) es) (leads e.0) (fewer p r leads es)
 
+-- one entry more, the first of which the stricter test drops
 falls_step : (a b : Bool) (e : Cell × Content) (xs ys : List (Cell × Content)) (c : Cell) → (a ≡ true → b ≡ true) → first_cell (cond b (e ∷ ys) ys) ≡ Some c → (e.0 ≡ c → a ≡ false)
     → length xs ≤ length ys → (first_cell ys ≡ Some c → length xs < length ys) → length (cond a (e ∷ xs) xs) < length (cond b (e ∷ ys) ys)
 falls_step true true e xs ys c leads f out more others = let is : e.0 ≡ c = cc in let no : true ≡ false = out is in absurd (cc)
@@ -197,6 +210,7 @@ falls p r c leads out [] f = absurd (cc)
 falls p r c leads out (e ∷ es) f =
     falls_step (p e.0) (r e.0) e (filter (λ d. p d.0) es) (filter (λ d. r d.0) es) c (leads e.0) f (λ is. ap p is ∙ out) (fewer p r leads es) (falls p r c leads out es)
 
+-- entries with a first are some
 some_first : (es : List (Cell × Content)) (c : Cell) → first_cell es ≡ Some c → 0 < length es
 some_first [] c h = absurd (cc)
 some_first (e ∷ es) c h = omega arith
@@ -213,5 +227,6 @@ fewer-ahead book seek cell next first reached behind =
     before_next Equal p e h = cc
     before_next Greater p e h = cc
 
+-- where there is no place there are fewer, too
 pub none-ahead : (book : List (Cell × Content)) (seek cell : Cell) → first_from book seek ≡ Some cell → cells_ahead book None < cells_ahead book (Some seek)
 none-ahead book seek cell first = some_first (cells_from seek book) cell first

@@ -1,6 +1,3 @@
-use Rattle.std.proofs.Common.{◌≡◌, Option}
-use Rattle.cell_refs.specs.declared.grid.Cell.{Cell}
-use Rattle.cell_values.specs.declared.values.Value.{Value}
 use Rattle.rtdhost.specs.Inputs.{known_input}
 use Rattle.rtdhost.proofs.CellsAhead.{cells_ahead}
 use Rattle.rtdhost.proofs.Gathered.{AreGathered}
