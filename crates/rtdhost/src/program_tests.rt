@@ -14,7 +14,7 @@ pub fn run(alloc: Global, src: &mut MemorySource, out: &mut MemorySink) -> Resul
 }
 
 /// Runs a script whose source gives so many bytes a call, and compares what was written.
-fn plays(rt: &impl Abort, alloc: Global, script: &str, piece: usize, want: &str) -> Result<(), Fail>
+pub fn plays(rt: &impl Abort, alloc: Global, script: &str, piece: usize, want: &str) -> Result<(), Fail>
     requires { 0 < piece }
 {
     let bytes = Vec::from_slice(alloc, script.as_bytes())?;
@@ -167,6 +167,11 @@ fn contents_that_are_not_read(rt: HostRuntime) -> Result<(), Fail> {
         "00000000000000000000000000000001000000000000000",
         "=",
         "=A1+",
+        "=1.5",
+        "=A1:",
+        "=IF(1,,2)",
+        "=SUM(A1:XFD5)",
+        "=1000000000000000",
         "a\tb",
         "'a\u{7f}",
         "\u{1}",
@@ -205,7 +210,7 @@ fn a_text_has_at_most_32767_characters(rt: HostRuntime) -> Result<(), Fail> {
 #[test]
 fn lines_of_other_forms_are_bad(rt: HostRuntime) -> Result<(), Fail> {
     let script =
-        "jump\nset A1\nset XFE1 1\nset A1048577 1\nset A2 =7/2\nset  A1 1\n calc\ncalc \n\nset A1 1\n";
+        "jump\nset A1\nset XFE1 1\nset A1048577 1\nset A2 =7%2\nset  A1 1\n calc\ncalc \n\nset A1 1\n";
     let bad =
         "bad later\nbad later\nbad later\nbad later\nbad later\nbad later\nbad later\nbad later\n";
     let mut want = String::from_str(rt.alloc(), bad)?;
