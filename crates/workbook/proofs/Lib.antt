@@ -8,4 +8,5 @@ pub mod Walking
 pub mod Reaching
 pub mod Evaluations
 pub mod Meanings
+pub mod Values
 pub mod Steps

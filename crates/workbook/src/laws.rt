@@ -1,13 +1,14 @@
 //! Laws of the definitions. The functions do nothing; each carries a theorem as its contract.
 
-ghost use Rattle.std.specs.Prelude.{◌≡◌, ℕ, Bool, true, false, List, Some};
+ghost use Rattle.std.specs.Prelude.{◌≡◌, ◌⊎◌, ℕ, Bool, true, false, List, None, Some};
 ghost use Rattle.std.specs.List.{list_any};
 ghost use Rattle.cell_refs.specs.declared.grid.Cell.{Cell};
+ghost use Rattle.cell_values.specs.declared.values.Value.{Value};
 ghost use Rattle.workbook.specs.declared.contents.Content.{Content};
 ghost use Rattle.workbook.specs.Book.{IsInOrder, is_formula, content_at, named_cells, formula_count};
 ghost use Rattle.workbook.specs.Circular.{is_circular, walks_on};
 ghost use Rattle.workbook.specs.Stale.{is_among, reaches, is_stale};
-ghost use Rattle.workbook.specs.Meaning.{Setting, meaning, Circ, content_meaning};
+ghost use Rattle.workbook.specs.Meaning.{Setting, meaning, Val, Circ, content_meaning};
 
 /// From a circular cell there are walks of every length, and a cell is circular exactly where it names a
 /// circular cell.
@@ -38,4 +39,10 @@ pub fn kept_meanings()
         → ((cell : Cell) → is_among changed cell ≡ false → content_at before cell ≡ content_at now cell)
         → (cell : Cell) → is_among changed cell ≡ false → is_stale now changed cell ≡ false
         → meaning setting before cell ≡ meaning setting now cell }
+{}
+
+/// Where no name is registered, each cell has a value or is circular: no recalculation has to wait.
+pub fn nothing_is_asked()
+    ensures { (setting : Setting) → ((name : List ℕ) → setting.registered name ≡ None) → (book : List (Cell × Content)) → IsInOrder book → (cell : Cell)
+        → (meaning setting book cell ≡ Circ) ⊎ ((v : Value) × (meaning setting book cell ≡ Val v)) }
 {}

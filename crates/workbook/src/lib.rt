@@ -13,5 +13,7 @@ mod tests;
 pub use books::{Book, CELL_LIMIT, FORMULA_LIMIT, SetFault};
 pub use commands::{BeginKind, Command, Form};
 pub use contents::Content;
-pub use laws::{circular_cells, kept_meanings, meanings_of_formulas, reached_cells};
+pub use laws::{
+    circular_cells, kept_meanings, meanings_of_formulas, nothing_is_asked, reached_cells,
+};
 pub use replies::{Reply, SheetCells};
