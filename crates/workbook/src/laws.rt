@@ -43,6 +43,6 @@ pub fn kept_meanings()
 
 /// Where no name is registered, each cell has a value or is circular: no recalculation has to wait.
 pub fn nothing_is_asked()
-    ensures { (setting : Setting) → ((name : List ℕ) → setting.registered name ≡ None) → (book : List (Cell × Content)) → IsInOrder book → (cell : Cell)
+    ensures { (setting : Setting) → ((name : List ℕ) → setting.registered name ≡ None) → (book : List (Cell × Content)) (cell : Cell)
         → (meaning setting book cell ≡ Circ) ⊎ ((v : Value) × (meaning setting book cell ≡ Val v)) }
 {}
