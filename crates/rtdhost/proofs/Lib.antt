@@ -2,6 +2,9 @@
 pub mod AreaCells
 pub mod CellsAhead
 pub mod Gathered
+pub mod CellsInOrder
+pub mod AreaOrder
+pub mod ScanLaws
 pub mod Marks
 pub mod Appending
 pub mod Endings

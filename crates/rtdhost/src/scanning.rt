@@ -2,7 +2,8 @@
 
 ghost use Rattle.std.specs.Prelude.{◌≡◌, [], ◌∷◌};
 ghost use Rattle.std.specs.List.{list_any};
-ghost use Rattle.rtdhost.specs.Scanning.{IsFirst, IsNext, lies_in};
+ghost use Rattle.workbook.specs.Stale.{is_among};
+ghost use Rattle.rtdhost.specs.Scanning.{IsFirst, IsLeastFrom, IsNext, corner, lesser, lies_in};
 
 use cell_refs::{Area, Cell};
 use std::collections::BTreeSet;
@@ -16,7 +17,9 @@ pub fn lies_in(areas: &[Area], cell: Cell) -> bool
 }
 
 /// The lesser of two cells, where there are two.
-fn lesser(a: Option<Cell>, b: Cell) -> Cell {
+fn lesser(a: Option<Cell>, b: Cell) -> Cell
+    ensures { result ≡ lesser a b }
+{
     match a {
         Some(a) if a < b => a,
         _ => b,
@@ -25,7 +28,7 @@ fn lesser(a: Option<Cell>, b: Cell) -> Cell {
 
 /// The first cell of an area.
 fn corner(area: &Area) -> Cell
-    ensures { IsFirst (area.now ∷ []) (Some result) }
+    ensures { result ≡ corner area.now }
 {
     Cell {
         sheet: area.sheet,
@@ -108,7 +111,9 @@ pub fn has_within(set: &BTreeSet<Cell>, areas: &[Area]) -> bool
 }
 
 /// The least cell of the set that isn't less than `from`.
-fn first_from(set: &BTreeSet<Cell>, from: Cell) -> Option<Cell> {
+fn first_from(set: &BTreeSet<Cell>, from: Cell) -> Option<Cell>
+    ensures { IsLeastFrom (is_among set.now.keys) from result }
+{
     match set.range((Bound::Included(&from), Bound::Unbounded)).next() {
         None => None,
         Some(cell) => Some(*cell),

@@ -1,0 +1,22 @@
+use Rattle.std.proofs.Common.{◌≡◌, false, Some, [], ◌∷◌, ap, sym, subst, ◌∙◌, arith}
+use Rattle.rtdhost.specs.Scanning.{IsNext, corner, is_less}
+use Rattle.rtdhost.proofs.AreaOrder.{corner-sheet, next-below, next-corner, next-end}
+use Rattle.rtdhost.proofs.scanning.next_of.Goals as goal
+use Rattle.rtdhost.proofs.scanning.next_of.Goals.{then-cell-area-via-then-cell-area, then-cell-area-via-else-cell-area+then-cell-area-2}
+
+pub returns-then-lt : goal.returns-then-lt
+returns-then-lt c = subst (λ first. IsNext (c.args.area.now ∷ []) c.args.cell (Some first)) (sym c.corner-then-lt.ensures) (next-corner c.args.area.now c.args.cell (ap (is_less c.args.cell) (sym c.corner.ensures) ∙ sym c.lt.ensures ∙ c.if-lt.true))
+
+pub returns-then-cell-area : goal.returns-then-cell-area
+returns-then-cell-area c =
+    let behind : is_less c.args.cell (corner c.args.area.now) ≡ false = ap (is_less c.args.cell) (sym c.corner.ensures) ∙ sym c.lt.ensures ∙ c.if-lt.false in
+    elim c.then-cell-area.branch [
+      | then-cell-area-via-then-cell-area w ↦ next-below c.args.area.now c.args.cell (corner-sheet c.args.area.now c.args.cell behind) (λ same. absurd (omega (arith, w.if-cell-area.true)))
+      | then-cell-area-via-else-cell-area+then-cell-area-2 w ↦ next-below c.args.area.now c.args.cell (corner-sheet c.args.area.now c.args.cell behind) (λ _. w.if-cell-area-2.true)
+    ]
+
+pub returns : goal.returns
+returns c =
+    let behind : is_less c.args.cell (corner c.args.area.now) ≡ false = ap (is_less c.args.cell) (sym c.corner.ensures) ∙ sym c.lt.ensures ∙ c.if-lt.false in
+    let from = corner-sheet c.args.area.now c.args.cell behind in
+    next-end c.args.area.now c.args.cell (omega (arith, from)) c.if-cell-area-4.false c.if-cell-area-5.false
