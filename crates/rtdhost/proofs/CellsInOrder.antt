@@ -18,7 +18,8 @@ less_or_not : (a b : Bool) → (a ≡ false → b ≡ false) → b ≡ true → 
 less_or_not true b leads h = refl
 less_or_not false b leads h = let none : b ≡ false = leads refl in cc
 
-turned : (a b : Cell) → is_less a b ≡ is_gt (cell_cmp b a)
+-- that one cell is less than another is that the other is greater
+pub turned : (a b : Cell) → is_less a b ≡ is_gt (cell_cmp b a)
 turned a b = ap is_lt (cells_total.antisymm a b) ∙ reversed (cell_cmp b a)
 
 -- a cell that isn't less than one that isn't less than a third isn't less than the third

@@ -4,6 +4,8 @@ pub mod CellsAhead
 pub mod Gathered
 pub mod CellsInOrder
 pub mod AreaOrder
+pub mod AreaSteps
+pub mod KeyLaws
 pub mod ScanLaws
 pub mod Marks
 pub mod Appending

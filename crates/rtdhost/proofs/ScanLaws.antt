@@ -1,7 +1,7 @@
 -- Going through the keys that lie in areas, step by step: what stands before the place that was reached.
 use Rattle.std.proofs.Common.{◌≡◌, ℕ, zero, suc, ◌+◌, ◌≤◌, ◌<◌, Bool, true, false, not, cond, ◌||◌, Option, None, Some, List, [], ◌∷◌, inl, inr, arith, refl, ap, sym, subst, ◌∙◌}
 use Rattle.std.specs.List.{list_any, count_by}
-use Rattle.std.proofs.lemmas.Bool.{or_cases}
+use Rattle.std.proofs.lemmas.Bool.{or_cases, or_from}
 use Rattle.std.proofs.lemmas.List.Sums.{sum_by-cons}
 use Rattle.cell_refs.specs.declared.areas.Area.{Area}
 use Rattle.cell_refs.specs.declared.grid.Cell.{Cell}
@@ -47,9 +47,23 @@ before-step areas has seek cell next least is q lies key = elim (is_less q seek)
   ] refl
 ] refl
 
+-- where none of the keys that lie in the areas stands before the last place, and the cell doesn't lie in them, none stands before the next place
+pub before-skips : (areas : List Area) (has : Cell → Bool) (last : Option Cell) (seek cell : Cell) (next : Option Cell) → last ≡ Some seek
+    → ((q : Cell) → lies_in areas q ≡ true → has q ≡ true → is_before last q ≡ false)
+    → IsLeastFrom has seek (Some cell) → lies_in areas cell ≡ false → IsNext areas cell next → (q : Cell) → lies_in areas q ≡ true → has q ≡ true → is_before next q ≡ false
+before-skips areas has last seek cell next at skipped least beside is q lies key = before-step areas has seek cell next least is q lies key
+    ∙ or_from (is_less q seek) (same_cell cell q) (subst (λ p. is_before p q ≡ false) at (skipped q lies key)) (elim (same_cell cell q) as (λ b. same_cell cell q ≡ b → b ≡ false) [
+      | true ↦ λ same. both_cannot (lies_in areas q) lies (subst (λ d. lies_in areas d ≡ false) (same_cell_is cell q same) beside) true false
+      | false ↦ λ _. refl
+    ] refl)
+
 -- where no key is left from a place on, each key stands before it
-pub before-all : (has : Cell → Bool) (seek : Cell) → IsLeastFrom has seek None → (q : Cell) → has q ≡ true → is_before (Some seek) q ≡ true
-before-all has seek none q key = none q key
+pub before-all : (has : Cell → Bool) (last : Option Cell) (seek : Cell) → last ≡ Some seek → IsLeastFrom has seek None → (q : Cell) → has q ≡ true → is_before last q ≡ true
+before-all has last seek at none q key = subst (λ p. is_before p q ≡ true) (sym at) (none q key)
+
+-- each cell stands before the end
+pub before-end : (last : Option Cell) → last ≡ None → (q : Cell) → is_before last q ≡ true
+before-end last at q = ap (λ p. is_before p q) at
 
 -- how many of these cells don't stand before a place
 abbrev pub left_from : Option Cell → List Cell → ℕ

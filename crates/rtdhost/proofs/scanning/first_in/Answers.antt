@@ -1,4 +1,11 @@
+use Rattle.std.proofs.Common.{Some, ap, sym, subst, ◌∙◌, ◌+◌, take}
+use Rattle.rtdhost.specs.Scanning.{IsFirst, lesser}
+use Rattle.rtdhost.proofs.AreaSteps.{first-all, first-more}
 use Rattle.rtdhost.proofs.scanning.first_in.Goals as goal
 
 pub loop-area-preserved : goal.loop-area-preserved
-loop-area-preserved c = ?
+loop-area-preserved c = subst (λ first. IsFirst (take (c.loop-area.area-index + 1) c.args.areas.now) (Some first)) (ap (lesser c.loop-area.first) (sym c.corner.ensures) ∙ sym c.lesser.ensures)
+    (first-more c.args.areas.now c.loop-area.area-index _ c.loop-area.first c.loop-area-test.true c.loop-area.invariant)
+
+pub returns : goal.returns
+returns c = first-all c.args.areas.now c.loop-area.area-index c.loop-area.first c.loop-area-test.false c.loop-area.invariant
