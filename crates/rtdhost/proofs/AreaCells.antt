@@ -10,18 +10,9 @@ use Rattle.cell_refs.specs.declared.grid.Cell.{Cell}
 use Rattle.cell_refs.specs.Area.{IsInside, area_has, cells_of}
 use Rattle.cell_refs.proofs.Listing.{listed_inside, inside_listed}
 use Rattle.rtdhost.specs.Scanning.{lies_in}
+use Rattle.rtdhost.proofs.AreaOrder.{is_inside}
 
--- the test finds a cell between the corners
-has_inside : (area : Area) (q : Cell) → area_has area q ≡ true → IsInside area q
-has_inside area q h = record {
-  sheet = grind (arith, nat_tests);
-  below = grind (arith, nat_tests);
-  above = grind (arith, nat_tests);
-  after = grind (arith, nat_tests);
-  before = grind (arith, nat_tests);
-}
-
--- and every such cell
+-- the test of an area finds every cell between its corners
 inside_has : (area : Area) (q : Cell) → IsInside area q → area_has area q ≡ true
 inside_has area q h = grind (arith, nat_tests, h.sheet, h.below, h.above, h.after, h.before)
 
@@ -38,7 +29,7 @@ or_there false b h = h
 pub lies_listed : (areas : List Area) (q : Cell) → lies_in areas q ≡ true → Contains (flat_map cells_of areas) q
 lies_listed [] q h = absurd (cc)
 lies_listed (area ∷ others) q h = ⊎_elim
-    (λ here. Contains-append_left (cells_of area) (flat_map cells_of others) q (inside_listed area q (has_inside area q here)))
+    (λ here. Contains-append_left (cells_of area) (flat_map cells_of others) q (inside_listed area q (is_inside area q here)))
     (λ later. Contains-append_right (cells_of area) (flat_map cells_of others) q (lies_listed others q later))
     (or_cases (area_has area q) (lies_in others q) h)
 

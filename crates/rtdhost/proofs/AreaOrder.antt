@@ -56,7 +56,8 @@ less_means a b h = less_leads a.sheet a.row a.col b.sheet b.row b.col h
 not_means : (a b : Cell) → is_less a b ≡ false → Leads b.sheet b.row a.sheet a.row (b.col ≤ a.col)
 not_means a b h = not_leads a.sheet a.row a.col b.sheet b.row b.col h
 
-is_inside : (area : Area) (q : Cell) → area_has area q ≡ true → IsInside area q
+-- a cell that passes the test of an area lies inside it
+pub is_inside : (area : Area) (q : Cell) → area_has area q ≡ true → IsInside area q
 is_inside area q h = record {
   sheet = grind (arith, nat_tests);
   below = grind (arith, nat_tests);

@@ -1,5 +1,6 @@
 -- Laws that the proofs of this crate share.
 pub mod AreaCells
+pub mod SharedCells
 pub mod CellsAhead
 pub mod Gathered
 pub mod CellsInOrder
