@@ -4,11 +4,16 @@ pub mod AreaLaws
 pub mod Calling
 pub mod Chaining
 pub mod Choosing
+pub mod DecidedCalls
+pub mod Deciding
+pub mod Decisions
 pub mod Evaluable
 pub mod Gathering
 pub mod Halting
 pub mod InputLaws
+pub mod KnownTopics
 pub mod OperationLaws
+pub mod Reading
 pub mod SiteLaws
 pub mod Taking
 pub mod TopicLaws

@@ -1,5 +1,5 @@
 -- What a job says of the world of its formula.
-use Rattle.std.specs.Prelude.{ℕ, Bool, ◌&&◌, nat_eq, List, Option, unwrap_or}
+use Rattle.std.specs.Prelude.{ℕ, Bool, ◌&&◌, nat_eq, List, Option, Some, unwrap_or}
 use Rattle.std.specs.Cmp.Lexicographic.{pointwise}
 use Rattle.std.specs.Map.{lookup}
 use Rattle.std.specs.Str.{bytes_eq}
@@ -42,3 +42,7 @@ world_of answer job = record {
   registered = registration_of job.functions;
   answer = answer;
 }
+
+-- the world of a job's formula, where each topic that the job doesn't know has this value
+unfoldable pub closed_world : (List ℕ → List Value → Value) → Job → Value → World
+closed_world answer job value = record (world_of answer job) { known = λ topic. Some (unwrap_or (topic_value job.topics topic) value) }

@@ -4,4 +4,5 @@ pub mod Inputs
 pub mod Jobs
 pub mod Outcomes
 pub mod Plans
+pub mod Resuming
 pub mod Steps

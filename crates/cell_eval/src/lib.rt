@@ -5,6 +5,7 @@ mod area_values;
 mod evaluation;
 mod halts;
 mod jobs;
+mod laws;
 mod lookups;
 mod operations;
 mod outcomes;
@@ -15,4 +16,5 @@ mod tests;
 mod topics;
 
 pub use jobs::{Functions, Inputs, Job, Outcome, Results, Topics};
+pub use laws::topics_read;
 pub use outcomes::eval;
