@@ -1,11 +1,11 @@
-ghost use Rattle.std.specs.Prelude.{◌≡◌};
+ghost use Rattle.std.specs.Prelude.{◌≡◌, [], ◌∷◌, ◌++◌, MatchResult};
 ghost use Rattle.std.specs.List.Sorted.{IsStrictlySortedBy};
 ghost use Rattle.std.specs.Map.{keys_of};
 ghost use Rattle.cell_refs.specs.Cell.{cell_cmp};
 
 use addin_types::Registration;
 use cell_refs::Cell;
-use cell_values::{Name, Topic, Value};
+use cell_values::{Memory, Name, Topic, Value};
 use formula_parse::Tree;
 use functions::Values;
 use std::marker::Model;
@@ -78,6 +78,16 @@ impl Topics {
         ensures { result ≡ entries.items }
     {
         Topics { entries }
+    }
+
+    /// Adds a topic behind the others.
+    pub fn push(&mut self, topic: Topic, value: Value) -> Result<(), Memory>
+        ensures { MatchResult result (λ done. self.new ≡ self.old ++ (topic, value) ∷ []) (λ memory. self.new ≡ self.old) }
+    {
+        match self.entries.push((topic, value)) {
+            Ok(()) => Ok(()),
+            Err(_) => Err(Memory),
+        }
     }
 
     /// The entries.

@@ -10,6 +10,7 @@ mod lookups;
 mod operations;
 mod outcomes;
 mod plans;
+mod resuming;
 mod sites;
 #[cfg(test)]
 mod tests;
@@ -18,3 +19,4 @@ mod topics;
 pub use jobs::{Functions, Inputs, Job, Outcome, Results, Topics};
 pub use laws::topics_read;
 pub use outcomes::eval;
+pub use resuming::eval_closed;

@@ -1,0 +1,25 @@
+ghost use Rattle.std.specs.Prelude.{◌≡◌, IfOk};
+ghost use Rattle.workbook.specs.Evaluation.{evaluated};
+ghost use Rattle.cell_eval.specs.Jobs.{closed_world, world_of};
+ghost use Rattle.cell_eval.specs.Outcomes.{told};
+
+use super::jobs::{Job, Outcome};
+use super::outcomes::eval;
+use addin_types::AddIns;
+use cell_values::{Memory, Value};
+use std::alloc::Global;
+
+/// Evaluates a formula to its end: each topic that the job doesn't know has this value. The job then knows the
+/// topics that were needed.
+pub fn eval_closed<F: AddIns>(alloc: Global, job: &mut Job, addins: &F, value: &Value) -> Result<Outcome, Memory>
+    ensures closed { IfOk result (λ outcome. told outcome ≡ evaluated (closed_world F.answer job.old value.now) job.old.tree) }
+    ensures known { IfOk result (λ outcome. told outcome ≡ evaluated (world_of F.answer job.new) job.old.tree) }
+    ensures kept { job.new ≡ record job.old { topics = job.new.topics } }
+{
+    'topics: loop {
+        match eval(alloc, job, addins)? {
+            Outcome::Topic(topic) => job.topics.push(topic, value.copy()?)?,
+            outcome => return Ok(outcome),
+        }
+    }
+}
