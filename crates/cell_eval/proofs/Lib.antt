@@ -9,6 +9,7 @@ pub mod Deciding
 pub mod Decisions
 pub mod Evaluable
 pub mod Gathering
+pub mod Growing
 pub mod Halting
 pub mod InputLaws
 pub mod KnownTopics

@@ -1,0 +1,89 @@
+-- A job that is evaluated again and again, with a topic more each time.
+use Rattle.std.proofs.Common.{◌≡◌, ℕ, ◌<◌, true, List, [], ◌∷◌, ◌++◌, Option, Some, None, unwrap_or, IfSome, refl, sym, ap, ◌∙◌, subst}
+use Rattle.cell_values.specs.declared.topics.Topic.{Topic}
+use Rattle.cell_values.specs.declared.values.Value.{Value}
+use Rattle.cell_eval.specs.declared.jobs.Job.{Job}
+use Rattle.cell_eval.specs.declared.jobs.Outcome.{Outcome}
+use Rattle.cell_eval.specs.declared.jobs.Outcome.TheVariants as outcomes
+use Rattle.cell_eval.specs.Jobs.{topic_value, world_of, closed_world}
+use Rattle.cell_eval.specs.Outcomes.{told}
+use Rattle.cell_eval.specs.Resuming.{AgreesWith, Foretells, is_listed, full_answer, answer_knowing}
+use Rattle.cell_eval.proofs.KnownTopics.{unknown_count, unknown_fewer, value_more}
+use Rattle.cell_eval.proofs.Reading.{topics_read, are_read}
+use Rattle.workbook.specs.Evaluation.{World, Answer, Val, Asks, Needs, evaluated}
+
+-- the value of each topic, where those that a job doesn't know have this value
+abbrev pub snapshot_of : Job → Value → Topic → Value
+snapshot_of job value topic = unwrap_or (topic_value job.topics topic) value
+
+-- a job that has become another by topics of this value alone
+pub record HasGrown (old : Job) (value : Value) (job : Job) : Type 0 where
+  pub kept : job ≡ record old { topics = job.topics }
+  pub alike : (topic : Topic) → snapshot_of job value topic ≡ snapshot_of old value topic
+
+-- at first it is the same job
+pub grown_first : (old job : Job) (value : Value) → job ≡ old → HasGrown old value job
+grown_first old job value same = record {
+  kept = same ∙ ap (λ topics. record old { topics = topics }) (ap (λ (j : Job). j.topics) (sym same));
+  alike = λ topic. ap (λ j. snapshot_of j value topic) same;
+}
+
+-- a topic more
+pub grown_more : (old job new : Job) (value : Value) (topic : Topic) → HasGrown old value job → new ≡ record job { topics = job.topics ++ (topic, value) ∷ [] } → HasGrown old value new
+grown_more old job new value topic h is = record {
+  kept = is ∙ ap (λ (j : Job). record j { topics = job.topics ++ (topic, value) ∷ [] }) h.kept ∙ ap (λ topics. record old { topics = topics }) (sym (ap (λ (j : Job). j.topics) is));
+  alike = λ t. ap (λ j. snapshot_of j value t) is ∙ value_more job.topics topic value t ∙ h.alike t;
+}
+
+-- ---- how many of the topics that a formula reads aren't known
+pub left_count : (List ℕ → List Value → Value) → Job → Value → List (Topic × Value) → ℕ
+left_count answer old value topics = unknown_count topics (topics_read (world_of answer old) old.tree (snapshot_of old value))
+
+-- what is known agrees with the snapshot
+agrees_some : (o p : Option Value) (value : Value) → unwrap_or o value ≡ unwrap_or p value → IfSome o (λ v. v ≡ unwrap_or p value)
+agrees_some None p value h = tt
+agrees_some (Some v) p value h = h
+
+grown_agrees : (old job : Job) (value : Value) → HasGrown old value job → AgreesWith (snapshot_of old value) (topic_value job.topics)
+grown_agrees old job value h topic = agrees_some (topic_value job.topics topic) (topic_value old.topics topic) value (h.alike topic)
+
+-- the world of a grown job
+grown_world : (answer : List ℕ → List Value → Value) (old job : Job) (value : Value) → HasGrown old value job → evaluated (world_of answer job) job.tree ≡ answer_knowing (world_of answer old) old.tree (topic_value job.topics)
+unfolding world_of
+grown_world answer old job value h = ap (λ (j : Job). evaluated (world_of answer j) j.tree) h.kept
+
+-- what a grown job's answer says of that of the closed world
+grown_foretells : (answer : List ℕ → List Value → Value) (old job : Job) (value : Value) (a : Answer) → HasGrown old value job → a ≡ evaluated (world_of answer job) job.tree
+    → Foretells (topic_value job.topics) (topics_read (world_of answer old) old.tree (snapshot_of old value)) (evaluated (closed_world answer old value) old.tree) a
+unfolding world_of closed_world
+grown_foretells answer old job value a h is =
+    subst (Foretells (topic_value job.topics) (topics_read (world_of answer old) old.tree (snapshot_of old value)) (evaluated (closed_world answer old value) old.tree))
+    (sym (is ∙ grown_world answer old job value h))
+    ((are_read (world_of answer old) old.tree (snapshot_of old value)).foretold (topic_value job.topics) (grown_agrees old job value h))
+
+-- a needed topic that is added leaves fewer
+pub left_fewer : (answer : List ℕ → List Value → Value) (old job new : Job) (value : Value) (topic : Topic) → HasGrown old value job → Needs topic ≡ evaluated (world_of answer job) job.tree
+    → new ≡ record job { topics = job.topics ++ (topic, value) ∷ [] } → left_count answer old value new.topics < left_count answer old value job.topics
+unfolding left_count
+left_fewer answer old job new value topic h is more =
+    let told = grown_foretells answer old job value (Needs topic) h is in
+    subst (λ topics. left_count answer old value topics < left_count answer old value job.topics) (sym (ap (λ (j : Job). j.topics) more))
+    (unknown_fewer job.topics topic value (topics_read (world_of answer old) old.tree (snapshot_of old value)) told.0 told.1)
+
+-- an outcome that needs no topic is that of the closed world
+foretold_end : (known : Topic → Option Value) (topics : List Topic) (full a : Answer) → ((topic : Topic) → a ≡ Needs topic → ⊥) → Foretells known topics full a → a ≡ full
+foretold_end known topics full (Val v) other h = sym h
+foretold_end known topics full (Asks site name args) other h = sym h
+foretold_end known topics full (Needs topic) other h = absurd (other topic refl)
+
+pub ends_closed : (answer : List ℕ → List Value → Value) (old job : Job) (value : Value) (a : Answer) → HasGrown old value job → a ≡ evaluated (world_of answer job) job.tree
+    → ((topic : Topic) → a ≡ Needs topic → ⊥) → a ≡ evaluated (closed_world answer old value) old.tree
+ends_closed answer old job value a h is other =
+    foretold_end (topic_value job.topics) (topics_read (world_of answer old) old.tree (snapshot_of old value)) (evaluated (closed_world answer old value) old.tree) a other
+    (grown_foretells answer old job value a h is)
+
+-- an outcome that is no topic needs none
+pub told_other : (outcome : Outcome) → ((topic : Topic) → outcome ≡ outcomes.Topic topic → ⊥) → (topic : Topic) → told outcome ≡ Needs topic → ⊥
+told_other (outcomes.Done v) other topic e = cc
+told_other (outcomes.Topic t) other topic e = other t refl
+told_other (outcomes.Call site name args) other topic e = cc

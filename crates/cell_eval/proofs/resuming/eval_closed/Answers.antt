@@ -1,0 +1,25 @@
+use Rattle.std.proofs.Common.{◌≡◌, [], ◌∷◌, ◌++◌, sym, ap, ◌∙◌}
+use Rattle.cell_eval.specs.declared.jobs.Job.{Job}
+use Rattle.cell_eval.specs.Jobs.{world_of}
+use Rattle.cell_eval.specs.Outcomes.{told}
+use Rattle.cell_eval.proofs.Growing.{grown_more, left_fewer, ends_closed, told_other}
+use Rattle.cell_eval.proofs.resuming.eval_closed.Goals as goal
+use Rattle.workbook.specs.Evaluation.{evaluated}
+
+pub topics-preserved : goal.topics-preserved
+topics-preserved g c =
+    grown_more c.args.job.now c.topics.job _ c.args.value.now c.in-Topic.topic c.topics.invariant
+    (ap (λ topics. record c.topics.job { topics = topics }) (c.in_ok-push-in-Topic.ensures ∙ ap (λ v. c.topics.job.topics ++ (c.in-Topic.topic, v) ∷ []) c.in_ok-copy-in-Topic.ensures))
+
+pub topics-smaller : goal.topics-smaller
+topics-smaller g c =
+    left_fewer g.F.AddIns.answer c.args.job.now c.topics.job _ c.args.value.now c.in-Topic.topic c.topics.invariant
+    (sym (ap told c.in-Topic.is) ∙ c.in_ok-outcome.ensures)
+    (ap (λ topics. record c.topics.job { topics = topics }) (c.in_ok-push-in-Topic.ensures ∙ ap (λ v. c.topics.job.topics ++ (c.in-Topic.topic, v) ∷ []) c.in_ok-copy-in-Topic.ensures))
+
+pub returns-in_default : goal.returns-in_default
+returns-in_default g c = record {
+  closed = ends_closed g.F.AddIns.answer c.args.job.now c.topics.job c.args.value.now (told c.in_ok-outcome.outcome) c.topics.invariant c.in_ok-outcome.ensures (told_other c.in_ok-outcome.outcome c.in_default.not-Topic);
+  known = c.in_ok-outcome.ensures ∙ ap (λ (j : Job). evaluated (world_of g.F.AddIns.answer c.topics.job) j.tree) c.topics.invariant.kept;
+  kept = c.topics.invariant.kept;
+}
