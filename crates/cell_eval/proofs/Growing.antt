@@ -1,5 +1,6 @@
 -- A job that is evaluated again and again, with a topic more each time.
-use Rattle.std.proofs.Common.{◌≡◌, ℕ, ◌<◌, true, List, [], ◌∷◌, ◌++◌, Option, Some, None, unwrap_or, IfSome, refl, sym, ap, ◌∙◌, subst}
+use Rattle.std.proofs.Common.{◌≡◌, ℕ, ◌<◌, true, List, [], ◌∷◌, ◌++◌, map, Option, Some, None, unwrap_or, IfSome, refl, sym, ap, ◌∙◌, subst, append_assoc, append-nil}
+use Rattle.std.proofs.lemmas.List.{map-append}
 use Rattle.cell_values.specs.declared.topics.Topic.{Topic}
 use Rattle.cell_values.specs.declared.values.Value.{Value}
 use Rattle.cell_eval.specs.declared.jobs.Job.{Job}
@@ -18,22 +19,34 @@ snapshot_of job value topic = unwrap_or (topic_value job.topics topic) value
 
 -- a job that has become another by topics of this value alone
 pub record HasGrown (old : Job) (value : Value) (job : Job) : Type 0 where
-  pub kept : job ≡ record old { topics = job.topics }
+  pub added : List Topic
+  pub grown : job ≡ record old { topics = old.topics ++ map (λ topic. (topic, value)) added }
   pub alike : (topic : Topic) → snapshot_of job value topic ≡ snapshot_of old value topic
 
 -- at first it is the same job
 pub grown_first : (old job : Job) (value : Value) → job ≡ old → HasGrown old value job
 grown_first old job value same = record {
-  kept = same ∙ ap (λ topics. record old { topics = topics }) (ap (λ (j : Job). j.topics) (sym same));
+  added = [];
+  grown = same ∙ ap (λ topics. record old { topics = topics }) (sym (append-nil old.topics));
   alike = λ topic. ap (λ j. snapshot_of j value topic) same;
 }
+
+-- topics of a value behind others, and one more
+entries_more : (topics : List (Topic × Value)) (value : Value) (added : List Topic) (topic : Topic)
+    → (topics ++ map (λ t. (t, value)) added) ++ (topic, value) ∷ [] ≡ topics ++ map (λ t. (t, value)) (added ++ topic ∷ [])
+entries_more topics value added topic = append_assoc topics (map (λ t. (t, value)) added) ((topic, value) ∷ []) ∙ ap (λ es. topics ++ es) (sym (map-append (λ (t : Topic). (t, value)) added (topic ∷ [])))
 
 -- a topic more
 pub grown_more : (old job new : Job) (value : Value) (topic : Topic) → HasGrown old value job → new ≡ record job { topics = job.topics ++ (topic, value) ∷ [] } → HasGrown old value new
 grown_more old job new value topic h is = record {
-  kept = is ∙ ap (λ (j : Job). record j { topics = job.topics ++ (topic, value) ∷ [] }) h.kept ∙ ap (λ topics. record old { topics = topics }) (sym (ap (λ (j : Job). j.topics) is));
+  added = h.added ++ topic ∷ [];
+  grown = is ∙ ap (λ (j : Job). record j { topics = j.topics ++ (topic, value) ∷ [] }) h.grown ∙ ap (λ topics. record old { topics = topics }) (entries_more old.topics value h.added topic);
   alike = λ t. ap (λ j. snapshot_of j value t) is ∙ value_more job.topics topic value t ∙ h.alike t;
 }
+
+-- nothing but the topics has changed
+grown_kept : (old job : Job) (value : Value) → HasGrown old value job → job ≡ record old { topics = job.topics }
+grown_kept old job value h = h.grown ∙ ap (λ topics. record old { topics = topics }) (sym (ap (λ (j : Job). j.topics) h.grown))
 
 -- ---- how many of the topics that a formula reads aren't known
 pub left_count : (List ℕ → List Value → Value) → Job → Value → List (Topic × Value) → ℕ
@@ -50,7 +63,7 @@ grown_agrees old job value h topic = agrees_some (topic_value job.topics topic) 
 -- the world of a grown job
 grown_world : (answer : List ℕ → List Value → Value) (old job : Job) (value : Value) → HasGrown old value job → evaluated (world_of answer job) job.tree ≡ answer_knowing (world_of answer old) old.tree (topic_value job.topics)
 unfolding world_of
-grown_world answer old job value h = ap (λ (j : Job). evaluated (world_of answer j) j.tree) h.kept
+grown_world answer old job value h = ap (λ (j : Job). evaluated (world_of answer j) j.tree) (grown_kept old job value h)
 
 -- what a grown job's answer says of that of the closed world
 grown_foretells : (answer : List ℕ → List Value → Value) (old job : Job) (value : Value) (a : Answer) → HasGrown old value job → a ≡ evaluated (world_of answer job) job.tree

@@ -1,4 +1,6 @@
-ghost use Rattle.std.specs.Prelude.{◌≡◌, IfOk};
+ghost use Rattle.std.specs.Prelude.{◌≡◌, ◌≢◌, ◌++◌, List, map, IfOk};
+ghost use Rattle.cell_values.specs.declared.topics.Topic.{Topic as OneTopic};
+ghost use Rattle.cell_eval.specs.declared.jobs.Outcome.TheVariants as outcomes;
 ghost use Rattle.workbook.specs.Evaluation.{evaluated};
 ghost use Rattle.cell_eval.specs.Jobs.{closed_world, world_of};
 ghost use Rattle.cell_eval.specs.Outcomes.{told};
@@ -11,10 +13,16 @@ use std::alloc::Global;
 
 /// Evaluates a formula to its end: each topic that the job doesn't know has this value. The job then knows the
 /// topics that were needed.
-pub fn eval_closed<F: AddIns>(alloc: Global, job: &mut Job, addins: &F, value: &Value) -> Result<Outcome, Memory>
+pub fn eval_closed<F: AddIns>(
+    alloc: Global,
+    job: &mut Job,
+    addins: &F,
+    value: &Value,
+) -> Result<Outcome, Memory>
     ensures closed { IfOk result (λ outcome. told outcome ≡ evaluated (closed_world F.answer job.old value.now) job.old.tree) }
-    ensures known { IfOk result (λ outcome. told outcome ≡ evaluated (world_of F.answer job.new) job.old.tree) }
-    ensures kept { job.new ≡ record job.old { topics = job.new.topics } }
+    ensures ended { IfOk result (λ outcome. (topic : OneTopic) → outcome ≢ outcomes.Topic topic) }
+    ensures known { IfOk result (λ outcome. told outcome ≡ evaluated (world_of F.answer job.new) job.new.tree) }
+    ensures grown { (added : List OneTopic) × (job.new ≡ record job.old { topics = job.old.topics ++ map (λ topic. (topic, value.now)) added }) }
 {
     'topics: loop {
         match eval(alloc, job, addins)? {

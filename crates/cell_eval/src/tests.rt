@@ -351,3 +351,99 @@ fn cells_are_looked_up_on_the_sheet_of_the_formula(rt: HostRuntime) -> Result<()
     assert_eq!(rt; words.as_str(), "11");
     Ok(())
 }
+
+/// A job of a formula on the first sheet over these topics.
+fn job_of(alloc: Global, text: &str, topics: &[(&str, &str, &str)]) -> Result<Job, Fail> {
+    Ok(Job {
+        round: 1,
+        cell: Cell {
+            sheet: 1,
+            row: 9,
+            col: 9,
+        },
+        tree: parse(alloc, text)?,
+        inputs: inputs_of(alloc, &CELLS)?,
+        topics: topics_of(alloc, topics)?,
+        results: results_of(alloc, &[])?,
+        functions: functions_of(alloc)?,
+    })
+}
+
+/// The outcome of a job that is evaluated to its end with a value, and then the job's topics, in words.
+fn closed_words(
+    alloc: Global,
+    text: &str,
+    topics: &[(&str, &str, &str)],
+    word: &str,
+) -> Result<String, Fail> {
+    let mut job = job_of(alloc, text, topics)?;
+    let value = read_value(alloc, word)?;
+    let outcome = eval_closed(alloc, &mut job, &SampleAddIns, &value)?;
+    let mut out = Vec::new(alloc);
+    out.extend_from_slice(outcome_words(alloc, &outcome)?.as_str().as_bytes())?;
+    for (topic, value) in job.topics.as_slice() {
+        out.extend_from_slice(b"; ")?;
+        for string in topic.strings.as_slice() {
+            out.extend_from_slice(string.as_str().as_bytes())?;
+            out.extend_from_slice(b" ")?;
+        }
+        print_value(value, &mut out)?;
+    }
+    Ok(String::from_utf8(out)?)
+}
+
+#[test]
+fn a_formula_that_is_evaluated_to_its_end_has_a_value_for_each_topic(
+    rt: HostRuntime,
+) -> Result<(), Fail> {
+    let text = "=IF(RTD(\"S\",\"\",\"a\")>1,RTD(\"S\",\"\",\"b\")+RTD(\"S\",\"\",\"a\"),7)";
+    for (known, word, expected) in [
+        (&[][..], "#N/A", "#N/A; a #N/A"),
+        (&[], "1", "7; a 1"),
+        (&[], "3", "6; a 3; b 3"),
+        (&[("S", "a", "5")], "#N/A", "#N/A; a 5; b #N/A"),
+        (&[("S", "a", "5")], "3", "8; a 5; b 3"),
+        (&[("S", "b", "4")], "2", "6; b 4; a 2"),
+        (&[("S", "a", "5"), ("S", "b", "6")], "0", "11; a 5; b 6"),
+    ] {
+        let words = closed_words(rt.alloc(), text, known, word)?;
+        assert_eq!(rt; words.as_str(), expected, "{word}");
+    }
+    let words = closed_words(
+        rt.alloc(),
+        "=IFERROR(RTD(\"S\",\"\",\"a\"),SLOW(1))",
+        &[],
+        "#N/A",
+    )?;
+    assert_eq!(rt; words.as_str(), "call 1 SLOW 1; a #N/A");
+    let words = closed_words(rt.alloc(), "=B1+1", &[], "#N/A")?;
+    assert_eq!(rt; words.as_str(), "6");
+    Ok(())
+}
+
+#[test]
+fn a_job_resumed_topic_by_topic_ends_as_one_evaluated_to_its_end(
+    rt: HostRuntime,
+) -> Result<(), Fail> {
+    let alloc = rt.alloc();
+    let text = "=IF(RTD(\"S\",\"\",\"a\")>1,RTD(\"S\",\"\",\"b\")+RTD(\"S\",\"\",\"a\"),7)";
+    for word in ["3", "1", "#N/A"] {
+        let mut job = job_of(alloc, text, &[])?;
+        let mut asked = 0;
+        for _ in 0..3 {
+            if let Outcome::Topic(topic) = eval(alloc, &job, &SampleAddIns)? {
+                asked += 1;
+                job.topics.push(topic, read_value(alloc, word)?)?;
+            }
+        }
+        let words = outcome_words(alloc, &eval(alloc, &job, &SampleAddIns)?)?;
+        let all = resumed(alloc, text, &[("S", "a", word), ("S", "b", word)])?;
+        assert_eq!(rt; words.as_str(), all.as_str(), "{word}");
+        assert_eq!(rt; job.topics.as_slice().len(), asked, "{word}");
+        let mut other = job_of(alloc, text, &[])?;
+        let closed = eval_closed(alloc, &mut other, &SampleAddIns, &read_value(alloc, word)?)?;
+        let words = outcome_words(alloc, &closed)?;
+        assert_eq!(rt; words.as_str(), all.as_str(), "{word}");
+    }
+    Ok(())
+}

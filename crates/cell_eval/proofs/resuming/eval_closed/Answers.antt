@@ -20,6 +20,7 @@ topics-smaller g c =
 pub returns-in_default : goal.returns-in_default
 returns-in_default g c = record {
   closed = ends_closed g.F.AddIns.answer c.args.job.now c.topics.job c.args.value.now (told c.in_ok-outcome.outcome) c.topics.invariant c.in_ok-outcome.ensures (told_other c.in_ok-outcome.outcome c.in_default.not-Topic);
-  known = c.in_ok-outcome.ensures ∙ ap (λ (j : Job). evaluated (world_of g.F.AddIns.answer c.topics.job) j.tree) c.topics.invariant.kept;
-  kept = c.topics.invariant.kept;
+  ended = c.in_default.not-Topic;
+  known = c.in_ok-outcome.ensures;
+  grown = (c.topics.invariant.added, c.topics.invariant.grown);
 }
