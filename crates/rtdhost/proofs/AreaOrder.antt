@@ -99,7 +99,7 @@ next-left area cell left = (
   λ q lies less.
       let i = lies-inside area q lies in
       let m = less_means cell q less in
-      leads_not q.sheet q.row q.col cell.sheet cell.row area.left m.sheets m.rows (λ _ _. i.after)
+      leads_not q.sheet q.row q.col cell.sheet cell.row area.left m.sheets m.rows (λ _ _. i.after),
 )
 
 -- the cell to the right of a cell is next
@@ -108,7 +108,7 @@ next-right area cell = (
   leads_less cell.sheet cell.row cell.col cell.sheet cell.row (cell.col + 1) (omega arith) (λ _. omega arith) (λ _ _. omega arith),
   λ q lies less.
       let m = less_means cell q less in
-      leads_not q.sheet q.row q.col cell.sheet cell.row (cell.col + 1) m.sheets m.rows (λ e f. omega (arith, m.columns e f))
+      leads_not q.sheet q.row q.col cell.sheet cell.row (cell.col + 1) m.sheets m.rows (λ e f. omega (arith, m.columns e f)),
 )
 
 -- at the right end of a row the next one is the first of the next row
@@ -118,7 +118,7 @@ next-row area cell sheet right = (
   λ q lies less.
       let i = lies-inside area q lies in
       let m = less_means cell q less in
-      leads_not q.sheet q.row q.col cell.sheet (cell.row + 1) area.left m.sheets (λ e. row_behind cell.row q.row cell.col q.col area.right (m.rows e) (m.columns e) right i.before) (λ _ _. i.after)
+      leads_not q.sheet q.row q.col cell.sheet (cell.row + 1) area.left m.sheets (λ e. row_behind cell.row q.row cell.col q.col area.right (m.rows e) (m.columns e) right i.before) (λ _ _. i.after),
 )
   where
     row_behind : (a b c d right : ℕ) → a ≤ b → (a ≡ b → c < d) → right ≤ c → d ≤ right → a + 1 ≤ b

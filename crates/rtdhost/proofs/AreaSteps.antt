@@ -75,7 +75,7 @@ next-more areas i d cell next other below is more = (
       ∙ elim (or_cases (lies_in (take i areas) q) (area_has (slice_index_or areas i d) q) (sym (list_any_more (λ area. area_has area q) areas i d below) ∙ lies)) as (λ _. (is_before next q && is_less q other) ≡ false) [
         | inl before ↦ and_left (is_before next q) _ (before-later (take i areas) cell next is q before less)
         | inr last ↦ and_right (is_before next q) _ (more.1 q (one_lies (slice_index_or areas i d) q last) less)
-      ]
+      ],
 )
 
 -- the next cell of as many areas as there are

@@ -263,10 +263,13 @@ module _ (book : List (Cell × Content)) (ordered : IsInOrder book) (stale : Lis
   left_when : (finished : List (Cell × Value)) (d : Cell) → is_valued book d ≡ true → is_some (known_input book stale sheet finished d) ≡ false
       → (is_among stale d ≡ true) × (is_some (lookup (same_cell d) finished) ≡ false)
   left_when finished d valued unknown = elim (is_among stale d) as (λ b. is_among stale d ≡ b → (is_among stale d ≡ true) × (is_some (lookup (same_cell d) finished) ≡ false)) [
-    | true ↦ λ e. (e, elim (is_some (lookup (same_cell d) finished)) as (λ b. is_some (lookup (same_cell d) finished) ≡ b → b ≡ false) [
-      | true ↦ λ f. absurd (true≢false (sym (known_when finished d valued (λ _. f)) ∙ unknown))
-      | false ↦ λ _. refl
-    ] refl)
+    | true ↦ λ e. (
+      e,
+      elim (is_some (lookup (same_cell d) finished)) as (λ b. is_some (lookup (same_cell d) finished) ≡ b → b ≡ false) [
+        | true ↦ λ f. absurd (true≢false (sym (known_when finished d valued (λ _. f)) ∙ unknown))
+        | false ↦ λ _. refl
+      ] refl,
+    )
     | false ↦ λ e. absurd (true≢false (sym (known_when finished d valued (λ f. absurd (true≢false (sym f ∙ e)))) ∙ unknown))
   ] refl
 

@@ -11,8 +11,7 @@ fn shows(rt: &impl Abort, alloc: Global, formula: &str, word: &str) -> Result<()
     let script = format!(in alloc;
         "set B1 1\nset B2 'x\nset B3 TRUE\nset B5 5\nset A1 {formula}\ncalc\nprint\n"
     )?;
-    let want =
-        format!(in alloc; "ok\nok\nok\nok\nok\nbegun 1\ndone 1 cells 1\nA1={word}\nB1=1\n")?;
+    let want = format!(in alloc; "ok\nok\nok\nok\nok\nbegun 1\ndone 1 cells 1\nA1={word}\nB1=1\n")?;
     let bytes = Vec::from_slice(alloc, script.as_bytes())?;
     let mut src = MemorySource::new(bytes, 1000, Vec::new(alloc));
     let mut out = MemorySink::new(alloc, 1000, Vec::new(alloc));
@@ -27,8 +26,7 @@ fn shows(rt: &impl Abort, alloc: Global, formula: &str, word: &str) -> Result<()
 #[test]
 fn a_branch_that_is_not_taken_is_named(rt: HostRuntime) -> Result<(), Fail> {
     let script = "set A1 =B1\nset B1 =A1\nset C1 =IF(TRUE,1,A1)\ncalc\nprint\n";
-    let want =
-        "ok\nok\nok\nbegun 1\ndone 1 cells 3\nA1=#CIRC!\nB1=#CIRC!\nC1=#CIRC!\nend\n";
+    let want = "ok\nok\nok\nbegun 1\ndone 1 cells 3\nA1=#CIRC!\nB1=#CIRC!\nC1=#CIRC!\nend\n";
     plays(&rt, rt.alloc(), script, 1000, want)
 }
 
@@ -132,7 +130,10 @@ fn functions_evaluate_what_they_need(rt: HostRuntime) -> Result<(), Fail> {
 fn each_topic_is_not_available(rt: HostRuntime) -> Result<(), Fail> {
     let table = [
         ("=RTD(\"f\",\"\",\"a\")&RTD(\"f\",\"\",\"b\")", "#N/A"),
-        ("=IFNA(RTD(\"f\",\"\",\"a\"),IFNA(RTD(\"f\",\"\",\"b\"),7))", "7"),
+        (
+            "=IFNA(RTD(\"f\",\"\",\"a\"),IFNA(RTD(\"f\",\"\",\"b\"),7))",
+            "7",
+        ),
         ("=COUNT(RTD(\"f\",\"\",\"a\"),RTD(\"f\",\"\",\"a\"),1)", "1"),
         ("=RTD(\"f\",\"elsewhere\",\"a\")", "#VALUE!"),
         ("=RTD(\"f\",\"\")", "#VALUE!"),
@@ -154,7 +155,8 @@ fn a_change_in_an_area_reaches_its_readers(rt: HostRuntime) -> Result<(), Fail> 
 
 #[test]
 fn an_area_with_its_own_cell_is_circular(rt: HostRuntime) -> Result<(), Fail> {
-    let script = "set B2 =SUM(A1:C3)\nset D1 =SUM(A1:A3)\nset D2 =Sheet1!B2\nset Sheet2!B2 =SUM(Sheet1!A1:A3)\ncalc\nprint\n";
+    let script =
+        "set B2 =SUM(A1:C3)\nset D1 =SUM(A1:A3)\nset D2 =Sheet1!B2\nset Sheet2!B2 =SUM(Sheet1!A1:A3)\ncalc\nprint\n";
     let want = "ok\nok\nok\nok\nbegun 1\ndone 1 cells 4\n\
         D1=0\nB2=#CIRC!\nD2=#CIRC!\nSheet2!B2=0\nend\n";
     plays(&rt, rt.alloc(), script, 1000, want)

@@ -14,7 +14,13 @@ pub fn run(alloc: Global, src: &mut MemorySource, out: &mut MemorySink) -> Resul
 }
 
 /// Runs a script whose source gives so many bytes a call, and compares what was written.
-pub fn plays(rt: &impl Abort, alloc: Global, script: &str, piece: usize, want: &str) -> Result<(), Fail>
+pub fn plays(
+    rt: &impl Abort,
+    alloc: Global,
+    script: &str,
+    piece: usize,
+    want: &str,
+) -> Result<(), Fail>
     requires { 0 < piece }
 {
     let bytes = Vec::from_slice(alloc, script.as_bytes())?;
