@@ -392,58 +392,60 @@ fn closed_words(
     Ok(String::from_utf8(out)?)
 }
 
+/// A formula of two topics: the second stands in a branch of IF whose condition uses the first.
+static TWO_TOPICS: &str =
+    "=IF(RTD(\"S\",\"\",\"a\")>1,RTD(\"S\",\"\",\"b\")+RTD(\"S\",\"\",\"a\"),7)";
+
 #[test]
-fn a_formula_that_is_evaluated_to_its_end_has_a_value_for_each_topic(
-    rt: HostRuntime,
-) -> Result<(), Fail> {
-    let text = "=IF(RTD(\"S\",\"\",\"a\")>1,RTD(\"S\",\"\",\"b\")+RTD(\"S\",\"\",\"a\"),7)";
-    for (known, word, expected) in [
-        (&[][..], "#N/A", "#N/A; a #N/A"),
-        (&[], "1", "7; a 1"),
-        (&[], "3", "6; a 3; b 3"),
-        (&[("S", "a", "5")], "#N/A", "#N/A; a 5; b #N/A"),
-        (&[("S", "a", "5")], "3", "8; a 5; b 3"),
-        (&[("S", "b", "4")], "2", "6; b 4; a 2"),
-        (&[("S", "a", "5"), ("S", "b", "6")], "0", "11; a 5; b 6"),
+fn a_formula_evaluated_to_its_end_has_a_value_for_each_topic(rt: HostRuntime) -> Result<(), Fail> {
+    let alloc = rt.alloc();
+    for (word, expected) in [
+        ("#N/A", "#N/A; a #N/A"),
+        ("1", "7; a 1"),
+        ("3", "6; a 3; b 3"),
     ] {
-        let words = closed_words(rt.alloc(), text, known, word)?;
+        let words = closed_words(alloc, TWO_TOPICS, &[], word)?;
         assert_eq!(rt; words.as_str(), expected, "{word}");
     }
+    let words = closed_words(alloc, TWO_TOPICS, &[("S", "a", "5")], "#N/A")?;
+    assert_eq!(rt; words.as_str(), "#N/A; a 5; b #N/A");
+    let words = closed_words(alloc, TWO_TOPICS, &[("S", "b", "4")], "2")?;
+    assert_eq!(rt; words.as_str(), "6; b 4; a 2");
+    let words = closed_words(alloc, TWO_TOPICS, &[("S", "a", "5"), ("S", "b", "6")], "0")?;
+    assert_eq!(rt; words.as_str(), "11; a 5; b 6");
     let words = closed_words(
-        rt.alloc(),
+        alloc,
         "=IFERROR(RTD(\"S\",\"\",\"a\"),SLOW(1))",
         &[],
         "#N/A",
     )?;
     assert_eq!(rt; words.as_str(), "call 1 SLOW 1; a #N/A");
-    let words = closed_words(rt.alloc(), "=B1+1", &[], "#N/A")?;
+    let words = closed_words(alloc, "=B1+1", &[], "#N/A")?;
     assert_eq!(rt; words.as_str(), "6");
     Ok(())
 }
 
+/// The outcome of a formula whose job is given each topic that it asks for, at most three, with this value.
+fn topic_by_topic(alloc: Global, text: &str, word: &str) -> Result<String, Fail> {
+    let mut job = job_of(alloc, text, &[])?;
+    for _ in 0..3 {
+        if let Outcome::Topic(topic) = eval(alloc, &job, &SampleAddIns)? {
+            job.topics.push(topic, read_value(alloc, word)?)?;
+        }
+    }
+    outcome_words(alloc, &eval(alloc, &job, &SampleAddIns)?)
+}
+
 #[test]
-fn a_job_resumed_topic_by_topic_ends_as_one_evaluated_to_its_end(
+fn a_job_resumed_topic_by_topic_has_the_value_of_one_that_knows_all(
     rt: HostRuntime,
 ) -> Result<(), Fail> {
     let alloc = rt.alloc();
-    let text = "=IF(RTD(\"S\",\"\",\"a\")>1,RTD(\"S\",\"\",\"b\")+RTD(\"S\",\"\",\"a\"),7)";
-    for word in ["3", "1", "#N/A"] {
-        let mut job = job_of(alloc, text, &[])?;
-        let mut asked = 0;
-        for _ in 0..3 {
-            if let Outcome::Topic(topic) = eval(alloc, &job, &SampleAddIns)? {
-                asked += 1;
-                job.topics.push(topic, read_value(alloc, word)?)?;
-            }
-        }
-        let words = outcome_words(alloc, &eval(alloc, &job, &SampleAddIns)?)?;
-        let all = resumed(alloc, text, &[("S", "a", word), ("S", "b", word)])?;
-        assert_eq!(rt; words.as_str(), all.as_str(), "{word}");
-        assert_eq!(rt; job.topics.as_slice().len(), asked, "{word}");
-        let mut other = job_of(alloc, text, &[])?;
-        let closed = eval_closed(alloc, &mut other, &SampleAddIns, &read_value(alloc, word)?)?;
-        let words = outcome_words(alloc, &closed)?;
-        assert_eq!(rt; words.as_str(), all.as_str(), "{word}");
+    for (word, expected) in [("3", "6"), ("1", "7"), ("#N/A", "#N/A")] {
+        let words = topic_by_topic(alloc, TWO_TOPICS, word)?;
+        assert_eq!(rt; words.as_str(), expected, "{word}");
+        let words = resumed(alloc, TWO_TOPICS, &[("S", "a", word), ("S", "b", word)])?;
+        assert_eq!(rt; words.as_str(), expected, "{word}");
     }
     Ok(())
 }
