@@ -1,6 +1,5 @@
 -- What calls come to over arguments that are given by decisions.
-use Rattle.std.proofs.Common.{◌≡◌, ℕ, ℤ, zero, suc, ◌+◌, ◌-◌, pos, int_lt, nat_lt, nat_eq, unsigned_abs, Bool, true, false, ◌||◌, cond, List, [], ◌∷◌, map, length, slice_get, Option, Some, None, Result, Ok, Err, codes, refl, sym, ap, ◌∙◌}
-use mathlib.Core.Path.{fun_ext}
+use Rattle.std.proofs.Common.{◌≡◌, ℕ, ℤ, zero, suc, ◌-◌, pos, int_lt, nat_lt, nat_eq, unsigned_abs, Bool, true, false, ◌||◌, cond, List, [], ◌∷◌, map, length, slice_get, Option, Some, None, Result, Ok, Err, codes, refl, ap}
 use Rattle.std.specs.List.{list_any}
 use Rattle.std.specs.Str.{bytes_eq, chars}
 use Rattle.std.proofs.lemmas.List.{length-map}
@@ -25,7 +24,7 @@ use Rattle.functions.specs.Applied.{applied}
 use Rattle.functions.specs.Functions.{arity_of}
 use Rattle.functions.specs.Inputs.{all_ok}
 use Rattle.functions.specs.Kinds.{is_error, is_na}
-use Rattle.workbook.specs.Evaluation.{World, Answer, Val, Asks, Needs, Argument, failed, then_with, with_all, with_input, with_inputs, takes_area, area_input, branch, if_answer, unless_answer, chosen, chosen_at, choose_answer, function_answer, is_within, topic_answer, known_answer, rtd_answer, accepted_answer, kind_answer, added_answer, call_answer, LONGEST_STRING}
+use Rattle.workbook.specs.Evaluation.{World, Answer, Val, Argument, failed, then_with, with_all, with_input, with_inputs, takes_area, area_input, branch, if_answer, unless_answer, chosen, chosen_at, choose_answer, function_answer, is_within, topic_answer, known_answer, rtd_answer, accepted_answer, kind_answer, added_answer, call_answer, LONGEST_STRING}
 
 -- an argument before the topics are known
 pub record Open : Type 0 where

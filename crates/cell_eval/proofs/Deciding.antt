@@ -1,27 +1,23 @@
 -- What a formula comes to is given by a decision over its topics.
-use Rattle.std.proofs.Common.{◌≡◌, ℕ, ℤ, suc, ◌+◌, Bool, List, [], ◌∷◌, map, All, Option, Some, None, refl, sym, ap, ◌∙◌}
+use Rattle.std.proofs.Common.{◌≡◌, ℕ, suc, ◌+◌, List, [], ◌∷◌, map, All, sym, ap, ◌∙◌}
 use Rattle.std.proofs.lemmas.List.Elements.{All-head, All-tail}
-use Rattle.cell_refs.specs.declared.areas.Area.{Area}
-use Rattle.cell_refs.specs.declared.references.RefText.{RefText}
 use Rattle.cell_refs.specs.RefText.{cell_at}
-use Rattle.cell_values.specs.declared.errors.ErrorKind.{ErrorKind}
 use Rattle.cell_values.specs.declared.errors.ErrorKind.TheVariants as errors
 use Rattle.cell_values.specs.declared.names.Name.{Name}
-use Rattle.cell_values.specs.declared.texts.Text.{Text}
 use Rattle.cell_values.specs.declared.values.Value.{Value}
 use Rattle.cell_values.specs.declared.values.Value.TheVariants as values
 use Rattle.cell_eval.specs.Resuming.{answer_knowing}
 use Rattle.cell_eval.specs.Steps.{answer_at, answers_at, arguments_at, area_at, call_at, chain_at}
 use Rattle.cell_eval.proofs.AnswerLaws.{answer_number, answer_text, answer_error, answer_boolean, answer_reference, answer_area, answer_call, answer_parentheses, answer_negation, answer_chain, answers_none, answers_first, arguments_none, arguments_first}
 use Rattle.cell_eval.proofs.DecidedCalls.{Open, closed, knowing, decides_call_of}
-use Rattle.cell_eval.proofs.Decisions.{Known, Decision, run, Decides, decides_value, decides_run, decides_same, decides_then, decides_all, decides_final}
+use Rattle.cell_eval.proofs.Decisions.{Known, Decision, run, Decides, decides_value, decides_same, decides_then, decides_all, decides_final}
 use Rattle.formula_parse.proofs.NodeLaws.{fold_number, fold_text, fold_error, fold_boolean, fold_reference, fold_area, fold_call, fold_parentheses, fold_negation, fold_chain, node_induction}
 use Rattle.formula_parse.specs.declared.nodes.Node.{Node}
 use Rattle.formula_parse.specs.declared.nodes.Node.TheVariants as nodes
 use Rattle.formula_parse.specs.declared.operators.Operator.{Operator}
 use Rattle.formula_parse.specs.Tree.{site_count}
 use Rattle.functions.specs.Functions.{function_named}
-use Rattle.workbook.specs.Evaluation.{World, Part, Answer, Val, Argument, failed, then_with, with_all, final_answer, negated_times, chain_value, call_answer, own_site, part_of, part_step, evaluated}
+use Rattle.workbook.specs.Evaluation.{World, Part, Val, then_with, with_all, final_answer, negated_times, chain_value, call_answer, own_site, part_of, part_step}
 
 module _ (world : World) where
   -- ---- the area of a part doesn't hang on the topics that are known

@@ -1,7 +1,6 @@
 -- Answers as trees of decisions over the topics that are looked up.
 use Rattle.std.proofs.Common.{◌≡◌, ℕ, Bool, true, false, cond, List, [], ◌∷◌, map, Option, Some, None, refl, sym, ap, ◌∙◌}
 use mathlib.Core.Path.{fun_ext}
-use Rattle.cell_refs.specs.declared.areas.Area.{Area}
 use Rattle.cell_values.specs.declared.topics.Topic.{Topic}
 use Rattle.cell_values.specs.declared.values.Value.{Value}
 use Rattle.cell_values.specs.Value.{final_of}

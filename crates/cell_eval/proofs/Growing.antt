@@ -1,5 +1,5 @@
 -- A job that is evaluated again and again, with a topic more each time.
-use Rattle.std.proofs.Common.{◌≡◌, ℕ, ◌<◌, true, List, [], ◌∷◌, ◌++◌, map, Option, Some, None, unwrap_or, IfSome, refl, sym, ap, ◌∙◌, subst, append_assoc, append-nil}
+use Rattle.std.proofs.Common.{◌≡◌, ℕ, ◌<◌, List, [], ◌∷◌, ◌++◌, map, Option, Some, None, unwrap_or, IfSome, refl, sym, ap, ◌∙◌, subst, append_assoc, append-nil}
 use Rattle.std.proofs.lemmas.List.{map-append}
 use Rattle.cell_values.specs.declared.topics.Topic.{Topic}
 use Rattle.cell_values.specs.declared.values.Value.{Value}
@@ -8,10 +8,10 @@ use Rattle.cell_eval.specs.declared.jobs.Outcome.{Outcome}
 use Rattle.cell_eval.specs.declared.jobs.Outcome.TheVariants as outcomes
 use Rattle.cell_eval.specs.Jobs.{topic_value, world_of, closed_world}
 use Rattle.cell_eval.specs.Outcomes.{told}
-use Rattle.cell_eval.specs.Resuming.{AgreesWith, Foretells, is_listed, full_answer, answer_knowing}
+use Rattle.cell_eval.specs.Resuming.{AgreesWith, Foretells, answer_knowing}
 use Rattle.cell_eval.proofs.KnownTopics.{unknown_count, unknown_fewer, value_more}
 use Rattle.cell_eval.proofs.Reading.{topics_read, are_read}
-use Rattle.workbook.specs.Evaluation.{World, Answer, Val, Asks, Needs, evaluated}
+use Rattle.workbook.specs.Evaluation.{Answer, Val, Asks, Needs, evaluated}
 
 -- the value of each topic, where those that a job doesn't know have this value
 abbrev pub snapshot_of : Job → Value → Topic → Value

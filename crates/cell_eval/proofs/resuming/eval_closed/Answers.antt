@@ -1,10 +1,10 @@
-use Rattle.std.proofs.Common.{◌≡◌, [], ◌∷◌, ◌++◌, sym, ap, ◌∙◌}
-use Rattle.cell_eval.specs.declared.jobs.Job.{Job}
-use Rattle.cell_eval.specs.Jobs.{world_of}
+use Rattle.std.proofs.Common.{[], ◌∷◌, ◌++◌, refl, sym, ap, ◌∙◌}
 use Rattle.cell_eval.specs.Outcomes.{told}
-use Rattle.cell_eval.proofs.Growing.{grown_more, left_fewer, ends_closed, told_other}
+use Rattle.cell_eval.proofs.Growing.{grown_first, grown_more, left_fewer, ends_closed, told_other}
 use Rattle.cell_eval.proofs.resuming.eval_closed.Goals as goal
-use Rattle.workbook.specs.Evaluation.{evaluated}
+
+pub topics-init : goal.topics-init
+topics-init g c = grown_first c.args.job.now _ c.args.value.now refl
 
 pub topics-preserved : goal.topics-preserved
 topics-preserved g c =
