@@ -1,7 +1,7 @@
 -- The cells of areas as one list: a cell lies in the areas where the list has it.
 use Rattle.std.proofs.Common.{◌≡◌, Bool, true, false, ◌||◌, List, [], ◌∷◌, flat_map, get_or, ⊎_elim, arith, refl, ap, ◌∙◌}
 use Rattle.std.specs.List.{AllByRecursion, Contains, list_all}
-use Rattle.std.proofs.lemmas.Bool.{or_cases}
+use Rattle.std.proofs.lemmas.Bool.{or_cases, or_left, or_right}
 use Rattle.std.proofs.lemmas.Bool.Decides.{nat_tests}
 use Rattle.std.proofs.lemmas.List.Elements.{Contains-append_cases, Contains-append_left, Contains-append_right, Contains-get_or, recursion_from_All}
 use Rattle.std.proofs.lemmas.List.Folds.{list_all_at}
@@ -15,15 +15,6 @@ use Rattle.rtdhost.proofs.AreaOrder.{is_inside}
 -- the test of an area finds every cell between its corners
 inside_has : (area : Area) (q : Cell) → IsInside area q → area_has area q ≡ true
 inside_has area q h = grind (arith, nat_tests, h.sheet, h.below, h.above, h.after, h.before)
-
--- an alternative that holds makes the whole hold
-or_here : (a b : Bool) → a ≡ true → (a || b) ≡ true
-or_here true b h = refl
-or_here false b h = cc
-
-or_there : (a b : Bool) → b ≡ true → (a || b) ≡ true
-or_there true b h = refl
-or_there false b h = h
 
 -- the list has each cell that lies in the areas
 pub lies_listed : (areas : List Area) (q : Cell) → lies_in areas q ≡ true → Contains (flat_map cells_of areas) q
@@ -41,8 +32,8 @@ none_listed q (k, l, e) = omega arith
 pub listed_lies : (areas : List Area) (q : Cell) → Contains (flat_map cells_of areas) q → lies_in areas q ≡ true
 listed_lies [] q h = absurd (none_listed q h)
 listed_lies (area ∷ others) q h = ⊎_elim
-    (λ here. or_here (area_has area q) (lies_in others q) (inside_has area q (listed_inside area q here)))
-    (λ later. or_there (area_has area q) (lies_in others q) (listed_lies others q later))
+    (λ here. or_left (area_has area q) (lies_in others q) (inside_has area q (listed_inside area q here)))
+    (λ later. or_right (area_has area q) (lies_in others q) (listed_lies others q later))
     (Contains-append_cases (cells_of area) (flat_map cells_of others) q h)
 
 -- what holds of each cell that lies in the areas holds along the list

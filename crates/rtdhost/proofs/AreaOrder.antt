@@ -1,5 +1,5 @@
 -- The cells of one area in the order of cells: the first, and the next after each cell.
-use Rattle.std.proofs.Common.{◌≡◌, ℕ, ◌+◌, ◌≤◌, ◌<◌, Bool, true, false, Option, None, Some, [], ◌∷◌, arith, inl, inr, refl}
+use Rattle.std.proofs.Common.{◌≡◌, ℕ, ◌+◌, ◌≤◌, ◌<◌, Bool, true, false, None, Some, [], ◌∷◌, arith, inl, inr, refl}
 use Rattle.std.specs.Ordering.{nat_cmp, ordering_then, is_lt}
 use Rattle.std.proofs.lemmas.Bool.{or_cases}
 use Rattle.std.proofs.lemmas.Bool.Decides.{nat_tests}
@@ -8,43 +8,53 @@ use Rattle.cell_refs.specs.declared.grid.Cell.{Cell}
 use Rattle.cell_refs.specs.Area.{IsInside, area_has}
 use Rattle.rtdhost.specs.Scanning.{IsNext, corner, is_less, lies_in}
 
--- whether three numbers stand before three others
+-- whether a sheet, a row and a column stand before three others
 abbrev triple_less : ℕ → ℕ → ℕ → ℕ → ℕ → ℕ → Bool
 triple_less s r c t u d = is_lt (ordering_then (nat_cmp s t) (ordering_then (nat_cmp r u) (nat_cmp c d)))
 
--- three numbers stand before three others, or they stand level with them where that is allowed
+-- the sheet s and the row r don't stand behind the sheet t and the row u, and where they are level the last fact holds of the columns
 record Leads (s r t u : ℕ) (Last : Type 0) : Type 0 where
   sheets : s ≤ t
   rows : s ≡ t → r ≤ u
   columns : s ≡ t → r ≡ u → Last
 
+-- what is less stands on no later sheet
 less_sheets : (s r c t u d : ℕ) → triple_less s r c t u d ≡ true → s ≤ t
 less_sheets s r c t u d h = grind (arith, nat_tests)
 
+-- on one sheet it stands in no later row
 less_rows : (s r c t u d : ℕ) → triple_less s r c t u d ≡ true → s ≡ t → r ≤ u
 less_rows s r c t u d h e = grind (arith, nat_tests)
 
+-- in one row it stands in an earlier column
 less_columns : (s r c t u d : ℕ) → triple_less s r c t u d ≡ true → s ≡ t → r ≡ u → c < d
 less_columns s r c t u d h e f = grind (arith, nat_tests)
 
+-- what being less says of the numbers
 less_leads : (s r c t u d : ℕ) → triple_less s r c t u d ≡ true → Leads s r t u (c < d)
 less_leads s r c t u d h = record { sheets = less_sheets s r c t u d h; rows = less_rows s r c t u d h; columns = less_columns s r c t u d h }
 
+-- what is less by its numbers
 leads_less : (s r c t u d : ℕ) → s ≤ t → (s ≡ t → r ≤ u) → (s ≡ t → r ≡ u → c < d) → triple_less s r c t u d ≡ true
 leads_less s r c t u d h k l = grind (arith, nat_tests)
 
+-- what isn't less stands on no earlier sheet
 not_sheets : (s r c t u d : ℕ) → triple_less s r c t u d ≡ false → t ≤ s
 not_sheets s r c t u d h = grind (arith, nat_tests)
 
+-- on one sheet it stands in no earlier row
 not_rows : (s r c t u d : ℕ) → triple_less s r c t u d ≡ false → t ≡ s → u ≤ r
 not_rows s r c t u d h e = grind (arith, nat_tests)
 
+-- in one row it stands in no earlier column
 not_columns : (s r c t u d : ℕ) → triple_less s r c t u d ≡ false → t ≡ s → u ≡ r → d ≤ c
 not_columns s r c t u d h e f = grind (arith, nat_tests)
 
+-- what not being less says of the numbers
 not_leads : (s r c t u d : ℕ) → triple_less s r c t u d ≡ false → Leads t u s r (d ≤ c)
 not_leads s r c t u d h = record { sheets = not_sheets s r c t u d h; rows = not_rows s r c t u d h; columns = not_columns s r c t u d h }
 
+-- what isn't less by its numbers
 leads_not : (s r c t u d : ℕ) → t ≤ s → (t ≡ s → u ≤ r) → (t ≡ s → u ≡ r → d ≤ c) → triple_less s r c t u d ≡ false
 leads_not s r c t u d h k l = grind (arith, nat_tests)
 
@@ -66,6 +76,7 @@ is_inside area q h = record {
   before = grind (arith, nat_tests);
 }
 
+-- a test doesn't both pass and fail
 cannot : (b c : Bool) → b ≡ true → b ≡ false → c ≡ true
 cannot b c h k = cc
 

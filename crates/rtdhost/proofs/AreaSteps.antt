@@ -1,22 +1,23 @@
 -- One area more: the first cell of all of them, and the next after a cell.
-use Rattle.std.proofs.Common.{◌≡◌, ℕ, ◌+◌, ◌≤◌, ◌<◌, Bool, true, false, ◌||◌, ◌&&◌, cond, Option, None, Some, List, [], ◌∷◌, length, take, inl, inr, refl, ap, sym, subst, ◌∙◌}
+use Rattle.std.proofs.Common.{◌≡◌, ℕ, ◌+◌, ◌≤◌, ◌<◌, Bool, true, false, ◌&&◌, cond, Option, None, Some, List, [], ◌∷◌, length, take, inl, inr, refl, sym, subst, ◌∙◌}
 use Rattle.std.specs.List.{slice_index_or}
-use Rattle.std.proofs.lemmas.Bool.{and_from, and_left, and_parts, and_right, false_from_ne_true, or_cases, or_from, or_left}
+use Rattle.std.proofs.lemmas.Bool.{and_from, and_left, and_right, or_cases, or_left}
 use Rattle.std.proofs.lemmas.List.{take_all}
 use Rattle.std.proofs.lemmas.List.Folds.{list_any_more}
-use Rattle.std.specs.Cmp.{both_ways}
 use Rattle.cell_refs.specs.declared.areas.Area.{Area}
 use Rattle.cell_refs.specs.declared.grid.Cell.{Cell}
 use Rattle.cell_refs.specs.Area.{area_has}
 use Rattle.rtdhost.specs.Scanning.{IsFirst, IsNext, corner, is_before, is_less, lesser, lies_in}
-use Rattle.rtdhost.proofs.CellsInOrder.{less-one_way, less-upto, upto-less, not_less-trans}
+use Rattle.rtdhost.proofs.CellsInOrder.{less-one_way, less-upto}
 use Rattle.rtdhost.proofs.AreaOrder.{corner-first}
 use Rattle.rtdhost.proofs.ScanLaws.{before-itself, before-later, first-before}
 
+-- a test that leads to another passes where both do
 narrower : (x y : Bool) → (x ≡ true → y ≡ true) → x ≡ (x && y)
 narrower true y leads = sym (leads refl)
 narrower false y leads = refl
 
+-- a test that leads back to another passes where both do
 narrower_right : (x y : Bool) → (y ≡ true → x ≡ true) → y ≡ (x && y)
 narrower_right true y leads = refl
 narrower_right false true leads = sym (leads refl)
@@ -30,6 +31,7 @@ before-lesser (Some a) b q = elim (is_less a b) as (λ x. is_less a b ≡ x → 
   | false ↦ λ upto. narrower_right (is_less q a) (is_less q b) (λ before. less-upto q b a before upto)
 ] refl
 
+-- what passes the test of an area lies in it alone
 one_lies : (area : Area) (q : Cell) → area_has area q ≡ true → lies_in (area ∷ []) q ≡ true
 one_lies area q h = or_left (area_has area q) false h
 
@@ -46,6 +48,7 @@ first-more areas i d first below is q lies = before-lesser first (corner (slice_
 pub first-all : (areas : List Area) (i : ℕ) (first : Option Cell) → length areas ≤ i → IsFirst (take i areas) first → IsFirst areas first
 first-all areas i first all is = subst (λ some. IsFirst some first) (take_all i areas all) is
 
+-- a test doesn't both pass and fail
 never : (b : Bool) → b ≡ true → b ≡ false → (c : Bool) → c ≡ false
 never b h k c = cc
 

@@ -3,17 +3,19 @@ use Rattle.std.proofs.Common.{◌≡◌, Bool, true, false, refl, ap, sym, ◌�
 use Rattle.std.specs.declared.cmp.Ordering.{Ordering}
 use Rattle.std.specs.declared.cmp.Ordering.TheVariants.{Less, Equal, Greater}
 use Rattle.std.specs.Ordering.{is_lt, is_gt, is_eq, ordering_reverse}
-use Rattle.std.specs.Cmp.{upto, tied_itself}
+use Rattle.std.specs.Cmp.{upto}
 use Rattle.cell_refs.specs.declared.grid.Cell.{Cell}
 use Rattle.cell_refs.specs.Cell.{cell_cmp, same_cell}
-use Rattle.cell_refs.proofs.CellOrder.{cells_total, exact_cells}
+use Rattle.cell_refs.proofs.CellOrder.{cells_total}
 use Rattle.rtdhost.specs.Scanning.{is_less}
 
+-- an answer that is turned round is less where it was greater
 reversed : (o : Ordering) → is_lt (ordering_reverse o) ≡ is_gt o
 reversed Less = refl
 reversed Equal = refl
 reversed Greater = refl
 
+-- where one test's failing leads to another's, the other's passing leads to the one's
 less_or_not : (a b : Bool) → (a ≡ false → b ≡ false) → b ≡ true → a ≡ true
 less_or_not true b leads h = refl
 less_or_not false b leads h = let none : b ≡ false = leads refl in cc
@@ -30,14 +32,7 @@ not_less-trans a b c first second = turned c a ∙ upto cells_total a b c (sym (
 pub less-upto : (a b c : Cell) → is_less a b ≡ true → is_less c b ≡ false → is_less a c ≡ true
 less-upto a b c less upto = less_or_not (is_less a c) (is_less a b) (λ not. not_less-trans b c a upto not) less
 
--- what isn't greater than a cell is less than each that is greater than it
-pub upto-less : (a b c : Cell) → is_less b a ≡ false → is_less b c ≡ true → is_less a c ≡ true
-upto-less a b c upto less = less_or_not (is_less a c) (is_less b c) (λ not. not_less-trans c a b not upto) less
-
--- no cell is less than itself
-pub not_less-itself : (a : Cell) → is_less a a ≡ false
-not_less-itself a = ap is_lt (tied_itself cells_total a)
-
+-- no answer is less and greater
 one_way : (o : Ordering) → is_lt o ≡ true → is_gt o ≡ false
 one_way Less h = refl
 one_way Equal h = cc
@@ -47,15 +42,7 @@ one_way Greater h = cc
 pub less-one_way : (a b : Cell) → is_less a b ≡ true → is_less b a ≡ false
 less-one_way a b less = turned b a ∙ one_way (cell_cmp a b) less
 
-neither : (o : Ordering) → is_lt o ≡ false → is_gt o ≡ false → o ≡ Equal
-neither Less h k = cc
-neither Equal h k = refl
-neither Greater h k = cc
-
--- cells of which neither is less are one
-pub level-cells : (a b : Cell) → is_less a b ≡ false → is_less b a ≡ false → a ≡ b
-level-cells a b h k = exact_cells a b (neither (cell_cmp a b) h (sym (turned b a) ∙ k))
-
+-- an answer that is neither equal nor greater is less
 apart_less : (o : Ordering) → is_eq o ≡ false → is_gt o ≡ false → is_lt o ≡ true
 apart_less Less h k = refl
 apart_less Equal h k = cc

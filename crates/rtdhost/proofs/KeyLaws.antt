@@ -26,6 +26,7 @@ some-key p (k ∷ keys) q among h = elim (or_cases (same_cell q k) (is_among key
   | inr later ↦ or_right (p k) _ (some-key p keys q later h)
 ]
 
+-- a test doesn't both pass and fail
 cannot : (b c : Bool) → b ≡ true → b ≡ false → c ≡ false
 cannot b c h k = cc
 

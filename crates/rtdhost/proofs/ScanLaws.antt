@@ -1,15 +1,16 @@
 -- Going through the keys that lie in areas, step by step: what stands before the place that was reached.
-use Rattle.std.proofs.Common.{◌≡◌, ℕ, zero, suc, ◌+◌, ◌≤◌, ◌<◌, Bool, true, false, not, cond, ◌||◌, Option, None, Some, List, [], ◌∷◌, inl, inr, arith, refl, ap, sym, subst, ◌∙◌}
+use Rattle.std.proofs.Common.{◌≡◌, ℕ, ◌+◌, ◌≤◌, ◌<◌, Bool, true, false, not, cond, ◌||◌, Option, None, Some, List, [], ◌∷◌, inl, inr, arith, refl, ap, sym, subst, ◌∙◌}
 use Rattle.std.specs.List.{list_any, count_by}
 use Rattle.std.proofs.lemmas.Bool.{or_cases, or_from}
 use Rattle.std.proofs.lemmas.List.Sums.{sum_by-cons}
 use Rattle.cell_refs.specs.declared.areas.Area.{Area}
 use Rattle.cell_refs.specs.declared.grid.Cell.{Cell}
 use Rattle.cell_refs.specs.Cell.{same_cell}
-use Rattle.workbook.proofs.Cells.{same_cell_is, same_cells}
+use Rattle.workbook.proofs.Cells.{same_cell_is}
 use Rattle.rtdhost.specs.Scanning.{IsFirst, IsNext, IsLeastFrom, is_before, is_less, lies_in}
-use Rattle.rtdhost.proofs.CellsInOrder.{apart-less, less-one_way, less-upto, not_less-itself, not_less-trans, upto-less}
+use Rattle.rtdhost.proofs.CellsInOrder.{apart-less, less-one_way, less-upto}
 
+-- a test doesn't both pass and fail
 both_cannot : (b : Bool) → b ≡ true → b ≡ false → (c d : Bool) → c ≡ d
 both_cannot b h k c d = cc
 
@@ -33,6 +34,7 @@ pub before-later : (areas : List Area) (cell : Cell) (next : Option Cell) → Is
 before-later areas cell None next q lies less = both_cannot (is_less cell q) less (next q lies) true false
 before-later areas cell (Some n) next q lies less = next.1 q lies less
 
+-- a cell that is this one stands before the next place
 same_before : (areas : List Area) (cell : Cell) (next : Option Cell) → IsNext areas cell next → (q : Cell) → same_cell cell q ≡ true → is_before next q ≡ true
 same_before areas cell next is q same = subst (λ c. is_before next c ≡ true) (same_cell_is cell q same) (before-itself areas cell next is)
 
@@ -69,22 +71,27 @@ before-end last at q = ap (λ p. is_before p q) at
 abbrev pub left_from : Option Cell → List Cell → ℕ
 left_from end cells = count_by (λ q. not (is_before end q)) cells
 
+-- the count of a list is that of its first cell and that of the others
 count_first : (p : Cell → Bool) (q : Cell) (cells : List Cell) → count_by p (q ∷ cells) ≡ cond (p q) 1 0 + count_by p cells
 count_first p q cells = sum_by-cons (λ c. cond (p c) 1 0) q cells
 
+-- where one test leads to another, the other's failing counts no more than the one's
 not_more : (a b : Bool) → (a ≡ true → b ≡ true) → cond (not b) 1 0 ≤ cond (not a) 1 0
 not_more true b leads = let e : b ≡ true = leads refl in subst (λ x. cond (not x) 1 0 ≤ 0) (sym e) (omega arith)
 not_more false true leads = omega arith
 not_more false false leads = omega arith
 
+-- no more cells are left where each that was passed stays so
 left_stays : (p n : Cell → Bool) → ((q : Cell) → p q ≡ true → n q ≡ true) → (cells : List Cell) → count_by (λ q. not (n q)) cells ≤ count_by (λ q. not (p q)) cells
 left_stays p n leads [] = omega arith
 left_stays p n leads (q ∷ cells) = omega (arith, count_first (λ c. not (p c)) q cells, count_first (λ c. not (n c)) q cells, not_more (p q) (n q) (leads q), left_stays p n leads cells)
 
+-- a cell that was left and is passed counts one less
 one_less : (a b : Bool) → a ≡ false → b ≡ true → cond (not b) 1 0 + 1 ≤ cond (not a) 1 0
 one_less a true e f = subst (λ x. 1 ≤ cond (not x) 1 0) (sym e) (omega arith)
 one_less a false e f = cc
 
+-- fewer cells are left where each that was passed stays so, and one of them was left and is passed
 left_falls : (p n : Cell → Bool) → ((q : Cell) → p q ≡ true → n q ≡ true) → (cell : Cell) → p cell ≡ false → n cell ≡ true
     → (cells : List Cell) → list_any (same_cell cell) cells ≡ true → count_by (λ q. not (n q)) cells < count_by (λ q. not (p q)) cells
 left_falls p n leads cell before after [] among = cc

@@ -16,6 +16,7 @@ use Rattle.rtdhost.specs.Scanning.{lies_in}
 use Rattle.rtdhost.proofs.AreaCells.{lies_listed, listed_lies}
 use Rattle.rtdhost.proofs.KeyLaws.{some-key}
 
+-- two tests that answer as two others do answer alike together
 or_alike : (a b c d : Bool) → a ≡ b → c ≡ d → (a || c) ≡ (b || d)
 or_alike a b c d e f = cc
 
@@ -33,6 +34,7 @@ found_key p (k ∷ keys) h = elim (or_cases (p k) (list_any p keys) h) as (λ _.
   | inr later ↦ let f = found_key p keys later in (f.0, or_right (same_cell f.0 k) _ f.1, f.2)
 ]
 
+-- a cell of one list that the other has
 meets : (a b : List Cell) → list_any (is_among b) a ≡ true → list_any (is_among a) b ≡ true
 meets a b h = let f = found_key (is_among b) a h in some-key (is_among a) b f.0 f.2 f.1
 
@@ -40,6 +42,7 @@ meets a b h = let f = found_key (is_among b) a h in some-key (is_among a) b f.0 
 pub common-cell : (a b : List Cell) → list_any (is_among b) a ≡ list_any (is_among a) b
 common-cell a b = both_ways _ _ (meets a b) (meets b a)
 
+-- four tests, two by two
 either_way : (a b c d : Bool) → ((a || b) || (c || d)) ≡ ((a || c) || (b || d))
 either_way true b c d = refl
 either_way false true true d = refl

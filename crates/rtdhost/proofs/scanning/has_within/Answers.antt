@@ -1,4 +1,4 @@
-use Rattle.std.proofs.Common.{◌<◌, None, sym, subst, ◌∙◌}
+use Rattle.std.proofs.Common.{◌<◌, sym, subst}
 use Rattle.workbook.specs.Stale.{is_among}
 use Rattle.rtdhost.specs.Scanning.{lies_in}
 use Rattle.rtdhost.proofs.KeyLaws.{none-within, some-key}

@@ -1,5 +1,4 @@
 use Rattle.std.proofs.Common.{◌≡◌, true, false}
-use Rattle.std.specs.List.{list_any}
 use Rattle.cell_refs.specs.declared.grid.Cell.{Cell}
 use Rattle.workbook.specs.Stale.{is_among}
 use Rattle.rtdhost.specs.Scanning.{lies_in, is_before}

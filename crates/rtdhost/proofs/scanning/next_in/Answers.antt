@@ -1,4 +1,4 @@
-use Rattle.std.proofs.Common.{◌+◌, None, Some, [], ◌∷◌, ap, sym, subst, ◌∙◌, take}
+use Rattle.std.proofs.Common.{◌+◌, Some, ap, sym, subst, ◌∙◌, take}
 use Rattle.rtdhost.specs.Scanning.{IsNext}
 use Rattle.rtdhost.proofs.AreaSteps.{next-all, next-more, next-stays}
 use Rattle.rtdhost.proofs.scanning.next_in.Goals as goal
