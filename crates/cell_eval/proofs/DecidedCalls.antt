@@ -44,12 +44,14 @@ decides_failed : (kind : ErrorKind) → Decides (λ known. failed kind)
 decides_failed kind = decides_value (values.Error kind)
 
 -- ---- IF, IFERROR, IFNA and CHOOSE
+-- the branch of IF that is taken
 decides_branch : (truth : Result Bool ErrorKind) (met : Open) (unmet : List Open) → Decides (λ known. branch truth (closed known met) (map (closed known) unmet))
 decides_branch (Err kind) met unmet = decides_failed kind
 decides_branch (Ok true) met unmet = decides_run met.decision
 decides_branch (Ok false) met [] = decides_value (values.Bool false)
 decides_branch (Ok false) met (unmet ∷ others) = decides_run unmet.decision
 
+-- IF
 decides_if : (os : List Open) → Decides (λ known. if_answer (map (closed known) os))
 decides_if [] = decides_failed errors.Value
 decides_if (test ∷ []) = decides_failed errors.Value
@@ -57,6 +59,7 @@ decides_if (test ∷ met ∷ unmet) =
     decides_then (λ known. run known test.decision) (λ known v. branch (truth_of v) (closed known met) (map (closed known) unmet)) (decides_run test.decision)
     (λ v. decides_branch (truth_of v) met unmet)
 
+-- IFERROR and IFNA
 decides_unless : (is_such : Value → Bool) (os : List Open) → Decides (λ known. unless_answer is_such (map (closed known) os))
 decides_unless is_such [] = decides_failed errors.Value
 decides_unless is_such (first ∷ []) = decides_failed errors.Value
@@ -64,17 +67,20 @@ decides_unless is_such (first ∷ second ∷ others) =
     decides_then (λ known. run known first.decision) (λ known v. cond (is_such v) (run known second.decision) (Val v)) (decides_run first.decision)
     (λ v. decides_cond (is_such v) (λ known. run known second.decision) (λ known. Val v) (decides_run second.decision) (decides_value v))
 
+-- the argument of CHOOSE at a place
 decides_chosen_at : (options : List Open) (place : ℕ) → Decides (λ known. chosen_at (slice_get (map (closed known) options) place))
 decides_chosen_at [] place = decides_failed errors.Value
 decides_chosen_at (o ∷ options) zero = decides_run o.decision
 decides_chosen_at (o ∷ options) (suc place) = decides_chosen_at options place
 
+-- the argument of CHOOSE that is taken
 decides_chosen : (n : Result ℤ ErrorKind) (options : List Open) → Decides (λ known. chosen n (map (closed known) options))
 decides_chosen (Err kind) options = decides_failed kind
 decides_chosen (Ok n) options =
     decides_cond (int_lt (pos 0) n) (λ known. chosen_at (slice_get (map (closed known) options) (unsigned_abs n - 1))) (λ known. failed errors.Value)
     (decides_chosen_at options (unsigned_abs n - 1)) (decides_failed errors.Value)
 
+-- CHOOSE
 decides_choose : (os : List Open) → Decides (λ known. choose_answer (map (closed known) os))
 decides_choose [] = decides_failed errors.Value
 decides_choose (index ∷ options) =
@@ -134,11 +140,12 @@ decides_counted test os x y h k =
     (λ known. ap (λ count. cond (test count) (x known) y) (length-map os (closed known)))
     (decides_cond (test (length os)) x (λ known. y) h k)
 
--- a topic's value
+-- a topic's value is looked up
 known_looked : (world : World) (topic : Topic) (o : Option Value) → known_answer world topic o ≡ looked topic o (λ v. Val v)
 known_looked world topic None = refl
 known_looked world topic (Some v) = refl
 
+-- a topic's value
 decides_known : (world : World) (topic : Topic) → Decides (λ known. known_answer (knowing world known) topic (known topic))
 decides_known world topic = record { decision = Looks topic Gives; runs = λ known. known_looked (knowing world known) topic (known topic) }
 
@@ -154,6 +161,7 @@ decides_topic world (Ok (name ∷ machine ∷ strings)) =
     (decides_failed errors.Value)
     (decides_cond (is_name name) (λ known. known_answer (knowing world known) topic (known topic)) (λ known. failed errors.Na) (decides_known world topic) (decides_failed errors.Na))
 
+-- RTD
 decides_rtd : (world : World) (os : List Open) → Decides (λ known. rtd_answer (knowing world known) (map (closed known) os))
 decides_rtd world os =
     decides_counted (is_within (3, 18)) os (λ known. with_all (map (λ (a : Argument). a.value) (map (closed known) os)) (λ vs. topic_answer (knowing world known) (all_ok (map text_of vs)))) (failed errors.Value)

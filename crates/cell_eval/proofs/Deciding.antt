@@ -20,10 +20,12 @@ use Rattle.functions.specs.Functions.{function_named}
 use Rattle.workbook.specs.Evaluation.{World, Part, Val, then_with, with_all, final_answer, negated_times, chain_value, call_answer, own_site, part_of, part_step}
 
 module _ (world : World) where
-  -- ---- the area of a part doesn't hang on the topics that are known
-  abbrev pub IsAreaAlike : Node → Type 0
+  -- ---- the area of a part is the same, whichever topics are known
+  -- the area of a part is the same
+  abbrev IsAreaAlike : Node → Type 0
   IsAreaAlike node = (known : Known) → area_at (knowing world known) node ≡ area_at world node
 
+  -- and so it is for each part
   area_alike : (node : Node) → IsAreaAlike node
   unfolding area_at
   area_alike = node_induction IsAreaAlike
@@ -39,7 +41,8 @@ module _ (world : World) where
       (λ operands ops h known. ap (λ (part : Part). part.area) (fold_chain Part (part_step (knowing world known)) operands ops) ∙ sym (ap (λ (part : Part). part.area) (fold_chain Part (part_step world) operands ops)))
 
   -- ---- the answer of a part behind so many sites is given by a decision
-  abbrev pub IsDecided : Node → Type 0
+  -- a decision gives the answer of a part
+  abbrev IsDecided : Node → Type 0
   IsDecided node = (before : ℕ) → Decides (λ known. answer_at (knowing world known) node before)
 
   -- arguments that are given by decisions
@@ -58,6 +61,7 @@ module _ (world : World) where
         ∙ ap (λ rest. (record { area = area_at world n; value = run known h.decision }) ∷ rest) (others.closes known);
   }
 
+  -- all arguments
   opened : (ns : List Node) (before : ℕ) → All IsDecided ns → Opened ns before
   opened [] before h = record { opens = []; closes = λ known. arguments_none (knowing world known) before }
   opened (n ∷ ns) before h = first_opened n ns before (All-head IsDecided n ns h before) (opened ns (before + site_count n) (All-tail IsDecided n ns h))
@@ -67,6 +71,7 @@ module _ (world : World) where
     pub decisions : List Decision
     pub run_to : (known : Known) → answers_at (knowing world known) ns before ≡ map (run known) decisions
 
+  -- the first operand
   first_decided : (n : Node) (ns : List Node) (before : ℕ) → Decides (λ known. answer_at (knowing world known) n before) → OperandsDecided ns (before + site_count n) → OperandsDecided (n ∷ ns) before
   first_decided n ns before h others = record {
     decisions = h.decision ∷ others.decisions;
@@ -76,6 +81,7 @@ module _ (world : World) where
         ∙ ap (λ rest. run known h.decision ∷ rest) (others.run_to known);
   }
 
+  -- all operands
   operands_decided : (ns : List Node) (before : ℕ) → All IsDecided ns → OperandsDecided ns before
   operands_decided [] before h = record { decisions = []; run_to = λ known. answers_none (knowing world known) before }
   operands_decided (n ∷ ns) before h = first_decided n ns before (All-head IsDecided n ns h before) (operands_decided ns (before + site_count n) (All-tail IsDecided n ns h))

@@ -49,14 +49,16 @@ grown_kept : (old job : Job) (value : Value) → HasGrown old value job → job 
 grown_kept old job value h = h.grown ∙ ap (λ topics. record old { topics = topics }) (sym (ap (λ (j : Job). j.topics) h.grown))
 
 -- ---- how many of the topics that a formula reads aren't known
+-- of the topics that a job's formula reads over a snapshot, how many aren't among these
 pub left_count : (List ℕ → List Value → Value) → Job → Value → List (Topic × Value) → ℕ
 left_count answer old value topics = unknown_count topics (topics_read (world_of answer old) old.tree (snapshot_of old value))
 
--- what is known agrees with the snapshot
+-- a value that is found is that of the snapshot
 agrees_some : (o p : Option Value) (value : Value) → unwrap_or o value ≡ unwrap_or p value → IfSome o (λ v. v ≡ unwrap_or p value)
 agrees_some None p value h = tt
 agrees_some (Some v) p value h = h
 
+-- what a grown job knows agrees with the snapshot
 grown_agrees : (old job : Job) (value : Value) → HasGrown old value job → AgreesWith (snapshot_of old value) (topic_value job.topics)
 grown_agrees old job value h topic = agrees_some (topic_value job.topics topic) (topic_value old.topics topic) value (h.alike topic)
 
@@ -83,12 +85,13 @@ left_fewer answer old job new value topic h is more =
     subst (λ topics. left_count answer old value topics < left_count answer old value job.topics) (sym (ap (λ (j : Job). j.topics) more))
     (unknown_fewer job.topics topic value (topics_read (world_of answer old) old.tree (snapshot_of old value)) told.0 told.1)
 
--- an outcome that needs no topic is that of the closed world
+-- an answer that needs no topic is the full one
 foretold_end : (known : Topic → Option Value) (topics : List Topic) (full a : Answer) → ((topic : Topic) → a ≡ Needs topic → ⊥) → Foretells known topics full a → a ≡ full
 foretold_end known topics full (Val v) other h = sym h
 foretold_end known topics full (Asks site name args) other h = sym h
 foretold_end known topics full (Needs topic) other h = absurd (other topic refl)
 
+-- an answer of a grown job that needs no topic is that of the closed world
 pub ends_closed : (answer : List ℕ → List Value → Value) (old job : Job) (value : Value) (a : Answer) → HasGrown old value job → a ≡ evaluated (world_of answer job) job.tree
     → ((topic : Topic) → a ≡ Needs topic → ⊥) → a ≡ evaluated (closed_world answer old value) old.tree
 ends_closed answer old job value a h is other =

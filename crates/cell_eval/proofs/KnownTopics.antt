@@ -25,15 +25,17 @@ value_same : (topics : List (Topic × Value)) (a b : Topic) → same_topic a b �
 value_same = lookup_congr same_topic same_topics.congr
 
 -- ---- a topic more, behind the others
--- a value that stands for what isn't known is found there too
+-- an added value, or else the same
 unwrap_last : (b : Bool) (v : Value) → unwrap_or (cond b (Some v) None) v ≡ v
 unwrap_last true v = refl
 unwrap_last false v = refl
 
+-- what is found first is found, whatever follows
 unwrap_other : (b : Bool) (w v : Value) (x y : Option Value) → unwrap_or x v ≡ unwrap_or y v → unwrap_or (cond b (Some w) x) v ≡ unwrap_or (cond b (Some w) y) v
 unwrap_other true w v x y h = refl
 unwrap_other false w v x y h = h
 
+-- what is looked up has the same value, where what isn't found has the added one
 unwrap_more : (test : Topic → Bool) (topics : List (Topic × Value)) (topic : Topic) (v : Value) → unwrap_or (lookup test (topics ++ (topic, v) ∷ [])) v ≡ unwrap_or (lookup test topics) v
 unwrap_more test [] topic v = unwrap_last (test topic) v
 unwrap_more test (e ∷ topics) topic v = unwrap_other (test e.0) e.1 v (lookup test (topics ++ (topic, v) ∷ [])) (lookup test topics) (unwrap_more test topics topic v)
@@ -42,15 +44,17 @@ unwrap_more test (e ∷ topics) topic v = unwrap_other (test e.0) e.1 v (lookup 
 pub value_more : (topics : List (Topic × Value)) (topic : Topic) (v : Value) (t : Topic) → unwrap_or (topic_value (topics ++ (topic, v) ∷ []) t) v ≡ unwrap_or (topic_value topics t) v
 value_more topics topic v t = unwrap_more (same_topic t) topics topic v
 
--- what isn't known then, wasn't known and isn't the added topic
+-- an added value isn't found where it fails the test
 none_last : (b : Bool) (v : Value) → is_none (cond b (Some v) None) ≡ not b
 none_last true v = refl
 none_last false v = refl
 
+-- what is found first is found, whatever else isn't
 none_other : (b c : Bool) (w : Value) (x y : Option Value) → is_none x ≡ (is_none y && c) → is_none (cond b (Some w) x) ≡ (is_none (cond b (Some w) y) && c)
 none_other true c w x y h = refl
 none_other false c w x y h = h
 
+-- what isn't found then, wasn't found and isn't the added one
 none_more : (test : Topic → Bool) (topics : List (Topic × Value)) (topic : Topic) (v : Value) → is_none (lookup test (topics ++ (topic, v) ∷ [])) ≡ (is_none (lookup test topics) && not (test topic))
 none_more test [] topic v = none_last (test topic) v
 none_more test (e ∷ topics) topic v = none_other (test e.0) (not (test topic)) e.1 (lookup test (topics ++ (topic, v) ∷ [])) (lookup test topics) (none_more test topics topic v)
@@ -59,10 +63,11 @@ none_more test (e ∷ topics) topic v = none_other (test e.0) (not (test topic))
 abbrev pub unknown_count : List (Topic × Value) → List Topic → ℕ
 unknown_count topics listed = count_by (λ topic. is_none (topic_value topics topic)) listed
 
--- equal numbers stand in the same order
+-- numbers that equal two others stand as these do
 le_same : (m n x y : ℕ) → m ≡ x → n ≡ y → x ≤ y → m ≤ n
 le_same m n x y p q h = omega arith
 
+-- and so they do strictly
 lt_same : (m n x y : ℕ) → m ≡ x → n ≡ y → x < y → m < n
 lt_same m n x y p q h = omega arith
 
@@ -76,6 +81,7 @@ counts_less true true m n h = omega arith
 counts_less true false m n h = omega arith
 counts_less false b m n h = omega arith
 
+-- fewer stay fewer
 counts_fewer : (a b : Bool) (m n : ℕ) → m < n → cond (a && not b) 1 0 + m < cond a 1 0 + n
 counts_fewer true true m n h = omega arith
 counts_fewer true false m n h = omega arith
@@ -88,11 +94,13 @@ pass_less p r (t ∷ ts) =
     le_same _ _ _ _ (count_first (λ x. p x && not (r x)) t ts) (count_first p t ts)
     (counts_less (p t) (r t) (count_by (λ x. p x && not (r x)) ts) (count_by p ts) (pass_less p r ts))
 
--- fewer by one, at least, where the test is passed and the other isn't
+-- one that passes the first test and fails the other makes fewer
 counts_one : (a b : Bool) (m n : ℕ) → a ≡ true → b ≡ true → m ≤ n → cond (a && not b) 1 0 + m < cond a 1 0 + n
 counts_one a b m n p q h = subst (λ x. cond (x && not b) 1 0 + m < cond x 1 0 + n) (sym p) (subst (λ x. cond (not x) 1 0 + m < 1 + n) (sym q) (omega arith))
 
+-- ---- a test s that is passed only by what passes p and fails the other test
 module _ (p r s : Topic → Bool) (passes : (t : Topic) → s t ≡ true → p t ≡ true) (fails : (t : Topic) → s t ≡ true → r t ≡ true) where
+  -- one more topic, where one of all passes s
   pass_fewer_step : (t : Topic) (ts : List Topic) (b : Bool) → s t ≡ b → (list_any s ts ≡ true → count_by (λ x. p x && not (r x)) ts < count_by p ts) → (b || list_any s ts) ≡ true
       → count_by (λ x. p x && not (r x)) (t ∷ ts) < count_by p (t ∷ ts)
   pass_fewer_step t ts true is h any =
@@ -102,6 +110,7 @@ module _ (p r s : Topic → Bool) (passes : (t : Topic) → s t ≡ true → p t
       lt_same _ _ _ _ (count_first (λ x. p x && not (r x)) t ts) (count_first p t ts)
       (counts_fewer (p t) (r t) (count_by (λ x. p x && not (r x)) ts) (count_by p ts) (h any))
 
+  -- where one passes s, fewer pass both
   pass_fewer : (ts : List Topic) → list_any s ts ≡ true → count_by (λ x. p x && not (r x)) ts < count_by p ts
   pass_fewer [] any = absurd (cc)
   pass_fewer (t ∷ ts) any = pass_fewer_step t ts (s t) refl (pass_fewer ts) any

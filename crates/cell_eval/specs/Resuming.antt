@@ -15,10 +15,11 @@ AgreesWith snapshot known = (topic : Topic) → IfSome (known topic) (λ v. v �
 abbrev pub is_listed : List Topic → Topic → Bool
 is_listed topics topic = list_any (same_topic topic) topics
 
--- the answer of a formula where these topics are known, or where each has its value of a snapshot
+-- the answer of a formula where these topics are known
 abbrev pub answer_knowing : World → Node → (Topic → Option Value) → Answer
 answer_knowing world tree known = evaluated (record world { known = known }) tree
 
+-- the answer of a formula where each topic has its value of a snapshot
 abbrev pub full_answer : World → Node → (Topic → Value) → Answer
 full_answer world tree snapshot = answer_knowing world tree (λ topic. Some (snapshot topic))
 
@@ -28,6 +29,6 @@ Foretells known topics full (Val v) = full ≡ Val v
 Foretells known topics full (Asks site name args) = full ≡ Asks site name args
 Foretells known topics full (Needs topic) = (known topic ≡ None) × (is_listed topics topic ≡ true)
 
--- these are the topics that a formula reads over a snapshot: whichever of the snapshot are known, it needs no other topic, and comes to nothing else
+-- these are the topics that a formula reads over a snapshot: whichever topics are known by it, no other topic is needed, and a value or a call is the full answer
 pub record AreRead (world : World) (tree : Node) (snapshot : Topic → Value) (topics : List Topic) : Type 0 where
   pub foretold : (known : Topic → Option Value) → AgreesWith snapshot known → Foretells known topics (full_answer world tree snapshot) (answer_knowing world tree known)

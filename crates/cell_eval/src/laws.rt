@@ -7,8 +7,8 @@ ghost use Rattle.cell_eval.specs.Resuming.{AreRead};
 ghost use Rattle.formula_parse.specs.declared.nodes.Node.{Node};
 ghost use Rattle.workbook.specs.Evaluation.{World};
 
-/// A formula reads finitely many topics: whichever of them are known, it needs no other, and where it comes to a
-/// value or a call, it comes to the same with every topic known.
+/// Of topics that each have a value, a formula reads finitely many: whichever topics are known by these values, it
+/// needs no other, and where it comes to a value or a call, it comes to the same with every topic known.
 pub fn topics_read()
     ensures { (world : World) (tree : Node) (snapshot : OneTopic → OneValue) → (topics : List OneTopic) × AreRead world tree snapshot topics }
 {}
