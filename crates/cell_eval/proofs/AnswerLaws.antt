@@ -1,22 +1,20 @@
 -- What the answers of parts are.
-use Rattle.std.proofs.Common.{◌≡◌, ℕ, ℤ, suc, ◌+◌, Bool, List, [], ◌∷◌, map, length, Option, Some, None, refl, sym, ap, ◌∙◌}
-use Rattle.cell_refs.specs.declared.areas.Area.{Area}
+use Rattle.std.proofs.Common.{◌≡◌, ℕ, ℤ, suc, ◌+◌, Bool, List, [], ◌∷◌, map, length, refl, ap, ◌∙◌}
 use Rattle.cell_refs.specs.declared.references.RefText.{RefText}
-use Rattle.cell_refs.specs.Area.{area_of}
 use Rattle.cell_refs.specs.RefText.{cell_at}
 use Rattle.cell_values.specs.declared.errors.ErrorKind.{ErrorKind}
 use Rattle.cell_values.specs.declared.errors.ErrorKind.TheVariants as errors
 use Rattle.cell_values.specs.declared.names.Name.{Name}
 use Rattle.cell_values.specs.declared.texts.Text.{Text}
 use Rattle.cell_values.specs.declared.values.Value.TheVariants as values
-use Rattle.cell_eval.specs.Steps.{answer_at, answers_at, arguments_at, area_at, call_at, chain_at, sites_among}
+use Rattle.cell_eval.specs.Steps.{answer_at, answers_at, arguments_at, area_at, call_at, chain_at}
 use Rattle.cell_eval.proofs.SiteLaws.{part_sites}
 use Rattle.formula_parse.proofs.NodeLaws.{fold_number, fold_text, fold_error, fold_boolean, fold_reference, fold_area, fold_call, fold_parentheses, fold_negation, fold_chain}
 use Rattle.formula_parse.specs.declared.nodes.Node.{Node}
 use Rattle.formula_parse.specs.declared.nodes.Node.TheVariants as nodes
 use Rattle.formula_parse.specs.declared.operators.Operator.{Operator}
 use Rattle.formula_parse.specs.Tree.{site_count}
-use Rattle.workbook.specs.Evaluation.{World, Part, Answer, Val, Argument, part_of, part_step, placed, answers_of, failed, final_answer, then_with, negated_times}
+use Rattle.workbook.specs.Evaluation.{World, Part, Val, Argument, part_of, part_step, placed, answers_of, failed, final_answer, then_with, negated_times}
 
 -- the answer of a number
 pub answer_number : (world : World) (n : ℤ) (before : ℕ) → answer_at world (nodes.Number n) before ≡ Val (values.Num n)

@@ -1,5 +1,5 @@
 -- What calls come to, by the function that is called.
-use Rattle.std.proofs.Common.{◌≡◌, ◌≢◌, ℕ, suc, ◌+◌, ◌==◌, Bool, true, false, cond, not, ◌||◌, List, [], ◌∷◌, map, length, is_some, Option, Some, None, refl, sym, ap, ◌∙◌, subst, arith, codes}
+use Rattle.std.proofs.Common.{◌≡◌, ◌≢◌, ℕ, suc, ◌+◌, ◌==◌, Bool, true, false, cond, not, ◌||◌, List, map, length, is_some, Option, Some, None, refl, sym, ap, ◌∙◌, arith, codes}
 use Rattle.std.specs.Str.{bytes_eq}
 use Rattle.addin_types.specs.declared.registrations.Registration.{Registration}
 use Rattle.cell_values.specs.declared.errors.ErrorKind.{ErrorKind}
@@ -17,7 +17,6 @@ use Rattle.cell_eval.specs.Steps.{Halts, GiveAll, HaltAll, AreTaken, HaltTaken, 
 use Rattle.cell_eval.proofs.AnswerLaws.{argument_values, argument_count}
 use Rattle.cell_eval.proofs.Halting.{Halts-same}
 use Rattle.formula_parse.specs.declared.nodes.Node.{Node}
-use Rattle.formula_parse.specs.Tree.{is_built_in}
 use Rattle.functions.specs.declared.arguments.Arg.{Arg}
 use Rattle.functions.specs.declared.functions.Function.{Function}
 use Rattle.functions.specs.declared.functions.Function.TheVariants as functions

@@ -1,5 +1,5 @@
 -- What a chain comes to, operand by operand.
-use Rattle.std.proofs.Common.{◌≡◌, ℕ, zero, suc, ◌+◌, ◌<◌, List, [], ◌∷◌, length, drop, get_or, refl, sym, ap, ◌∙◌, subst, add-one}
+use Rattle.std.proofs.Common.{◌≡◌, ℕ, zero, suc, ◌+◌, ◌<◌, List, [], ◌∷◌, length, drop, get_or, refl, sym, ap, ◌∙◌, add-one}
 use Rattle.std.proofs.lemmas.List.{drop_more}
 use Rattle.cell_values.specs.declared.values.Value.{Value}
 use Rattle.cell_values.specs.declared.values.Value.TheVariants as values
@@ -10,7 +10,7 @@ use Rattle.cell_eval.proofs.Halting.{Halts-same, Halts-then, with_all-same}
 use Rattle.formula_parse.specs.declared.nodes.Node.{Node}
 use Rattle.formula_parse.specs.declared.operators.Operator.{Operator}
 use Rattle.formula_parse.specs.Tree.{site_count}
-use Rattle.workbook.specs.Evaluation.{World, Answer, Val, with_all, operated_on, chain_value}
+use Rattle.workbook.specs.Evaluation.{World, Val, with_all, operated_on, chain_value}
 
 -- the answers of the parts from a place on
 pub answers_drop : (world : World) (ns : List Node) (i : ℕ) (x : Node) (before : ℕ) → i < length ns → x ≡ get_or ns i x

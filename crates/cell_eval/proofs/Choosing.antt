@@ -1,5 +1,5 @@
 -- What IF, IFERROR, IFNA and CHOOSE come to, by the arguments that they take.
-use Rattle.std.proofs.Common.{◌≡◌, ℕ, zero, suc, ◌+◌, ◌-◌, ◌<◌, ◌≤◌, nat_le, ℤ, pos, negsuc, int_lt, unsigned_abs, Bool, true, false, ◌&&◌, cond, List, [], ◌∷◌, length, take, get_or, Option, Some, None, Result, Ok, Err, refl, sym, ap, ◌∙◌, subst, arith}
+use Rattle.std.proofs.Common.{◌≡◌, ℕ, zero, suc, ◌+◌, ◌-◌, ◌<◌, ◌≤◌, nat_le, ℤ, pos, negsuc, int_lt, unsigned_abs, Bool, true, false, ◌&&◌, cond, List, [], ◌∷◌, length, take, get_or, Some, Result, Ok, Err, refl, sym, ap, ◌∙◌, arith}
 use Rattle.std.proofs.lemmas.Bool.Decides.{nat_tests}
 use Rattle.std.proofs.lemmas.Option.{slice_get_past}
 use Rattle.std.specs.List.{slice_get}
@@ -15,7 +15,7 @@ use Rattle.cell_eval.proofs.AnswerLaws.{arguments_none, arguments_first, argumen
 use Rattle.cell_eval.proofs.Halting.{Halts-same, Halts-then}
 use Rattle.formula_parse.specs.declared.nodes.Node.{Node}
 use Rattle.formula_parse.specs.Tree.{site_count}
-use Rattle.workbook.specs.Evaluation.{World, Answer, Val, Argument, failed, then_with, branch, if_answer, unless_answer, choose_answer, chosen, chosen_at}
+use Rattle.workbook.specs.Evaluation.{World, Val, Argument, failed, then_with, branch, if_answer, unless_answer, choose_answer, chosen, chosen_at}
 
 -- the first two arguments
 arguments_two : (world : World) (a b : Node) (rest : List Node) (before : ℕ)

@@ -1,5 +1,5 @@
 -- What the texts of RTD come to.
-use Rattle.std.proofs.Common.{◌≡◌, ℕ, nat_lt, Bool, true, false, List, [], ◌∷◌, map, length, Option, Result, Ok, Err, sym, ap, ap₂, ◌∙◌}
+use Rattle.std.proofs.Common.{◌≡◌, ℕ, nat_lt, true, false, List, ◌∷◌, length, Option, Result, Ok, sym, ap, ap₂, ◌∙◌}
 use Rattle.std.specs.List.{list_any}
 use Rattle.std.specs.Str.{chars}
 use Rattle.cell_values.specs.declared.errors.ErrorKind.{ErrorKind}

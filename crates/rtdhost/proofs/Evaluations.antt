@@ -1,5 +1,5 @@
 -- Evaluation in passes: what is finished has its meaning, and what is left has no value.
-use Rattle.std.proofs.Common.{◌≡◌, ℕ, zero, suc, ◌+◌, ◌<◌, ◌⊎◌, inl, inr, Bool, true, false, cond, not, ◌&&◌, ◌||◌, List, [], ◌∷◌, length, take, Option, Some, None, is_some, unwrap_or, refl, ap, sym, subst, ◌∙◌, arith}
+use Rattle.std.proofs.Common.{◌≡◌, ℕ, zero, suc, ◌+◌, ◌<◌, ◌⊎◌, inl, inr, Bool, true, false, cond, ◌&&◌, ◌||◌, List, [], ◌∷◌, length, take, Option, Some, None, is_some, unwrap_or, refl, ap, sym, subst, ◌∙◌, arith}
 use Rattle.std.specs.List.{flat_map, list_any, list_all, slice_index_or, AllByRecursion}
 use Rattle.std.specs.Map.{lookup}
 use Rattle.std.specs.Option.{option_and_then}
@@ -25,7 +25,7 @@ use Rattle.workbook.specs.Stale.{is_among}
 use Rattle.workbook.specs.State.{alone}
 use Rattle.workbook.proofs.Cells.{same_cell_is}
 use Rattle.workbook.proofs.Evaluations.{evaluated_alike}
-use Rattle.workbook.proofs.Walking.{any_leads, walks-formula, circular-names, circular-walks}
+use Rattle.workbook.proofs.Walking.{walks-formula, circular-names}
 use Rattle.workbook.proofs.Meanings.{each_leads, none_where, shows_circle, meaning-unfolds}
 use Rattle.workbook.proofs.Steps.{formula_cells-has, formula_cells-count}
 use Rattle.rtdhost.specs.Inputs.{AreInputs, known_content, known_formula, known_input, answer_value, value_if_known, content_if_known, ready_value, ShowsOthers, AreMeant, KeepsFinished, FinishesReady, IsFinishedOrNew, IsEvaluated}

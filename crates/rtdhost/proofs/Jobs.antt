@@ -1,5 +1,5 @@
 -- What the job of a host without servers and registered functions comes to.
-use Rattle.std.proofs.Common.{◌≡◌, ℕ, List, [], Option, None, refl, ap, sym, subst, ◌∙◌}
+use Rattle.std.proofs.Common.{◌≡◌, ℕ, List, [], ap, ◌∙◌}
 use Rattle.addin_types.specs.Samples.{sample_answer}
 use Rattle.addin_types.specs.declared.registrations.Registration.{Registration}
 use Rattle.cell_eval.specs.Jobs.{closed_world, world_of, input_of}

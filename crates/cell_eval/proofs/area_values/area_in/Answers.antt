@@ -1,4 +1,4 @@
-use Rattle.std.proofs.Common.{rules, ◌∙◌, ap, sym, subst, ◌≤◌, Some}
+use Rattle.std.proofs.Common.{◌∙◌, ap, sym, subst, ◌≤◌, Some}
 use Rattle.cell_refs.specs.Area.{size_of}
 use Rattle.cell_eval.proofs.AreaLaws.{area_reference, area_corners, area_none, corners_small}
 use Rattle.cell_eval.proofs.area_values.area_in.Goals as goal

@@ -1,4 +1,4 @@
-use Rattle.std.proofs.Common.{◌≡◌, ℕ, List, take, drop, length, ◌-◌, rules, of_calls, ◌∙◌, sym, ap, subst}
+use Rattle.std.proofs.Common.{List, rules, of_calls, ◌∙◌, sym, subst}
 use Rattle.std.proofs.lemmas.Fn.{always_returns_same}
 use Rattle.std.specs.List.Sorted.{IsStrictlySortedBy}
 use Rattle.std.specs.Map.{keys_of}
@@ -6,7 +6,6 @@ use Rattle.std.specs.Ordering.{is_lt}
 use Rattle.cell_refs.specs.Cell.{cell_cmp}
 use Rattle.cell_refs.specs.declared.grid.Cell.{Cell}
 use Rattle.cell_values.specs.declared.values.Value.{Value}
-use Rattle.cell_eval.specs.Inputs.{from_cell}
 use Rattle.cell_eval.proofs.InputLaws.{rest_of, sorted_drop, entries_parted, from_point}
 use Rattle.cell_eval.proofs.area_values.from_cell.Goals as goal
 

@@ -1,7 +1,6 @@
 use Rattle.std.proofs.Common.{IfOk, ◌≡◌, ◌∙◌, ap, subst}
 use Rattle.cell_values.specs.declared.values.Value.{Value}
-use Rattle.cell_eval.specs.Inputs.{from_cell, head_value}
-use Rattle.cell_eval.specs.Jobs.{input_of}
+use Rattle.cell_eval.specs.Inputs.{head_value}
 use Rattle.cell_eval.proofs.InputLaws.{found}
 use Rattle.cell_eval.proofs.area_values.input_value.Goals as goal
 

@@ -1,24 +1,22 @@
-use Rattle.std.proofs.Common.{◌≡◌, ◌+◌, ◌<◌, ◌≤◌, ◌∷◌, List, [], All, MatchResult, OnOk, length, length-append, cond, ◌++◌, take, drop, get_or, Ok, Err, None, true, false, arith, rules, refl, sym, ap, subst, ◌∙◌}
+use Rattle.std.proofs.Common.{◌≡◌, ◌+◌, ◌<◌, ◌∷◌, List, [], All, OnOk, length, length-append, cond, ◌++◌, take, drop, Ok, None, true, arith, rules, refl, sym, ap, subst, ◌∙◌}
 use Rattle.std.proofs.lemmas.List.{nil_from_length, drop_all}
 use Rattle.std.proofs.lemmas.List.Elements.{All-append, All-cons, All-nil}
 use Rattle.std.proofs.lemmas.Result.{err_from_is_err_and}
-use Rattle.cell_refs.specs.RefText.{cell_at}
 use Rattle.cell_values.specs.declared.values.Value.TheVariants as values
-use Rattle.cell_values.specs.Coercion.{truth_of}
 use Rattle.cell_values.specs.Value.{number_of}
 use Rattle.cell_eval.specs.Errors.{is_such}
 use Rattle.cell_eval.specs.Jobs.{world_of, input_of}
-use Rattle.cell_eval.specs.Plans.{plan_of, planned_value}
-use Rattle.cell_eval.specs.Steps.{NamesSmallAreas, answer_at, answers_at, argument_at, arguments_at, chain_at, built_in_at, call_at, place_of, sites_among}
+use Rattle.cell_eval.specs.Plans.{plan_of}
+use Rattle.cell_eval.specs.Steps.{NamesSmallAreas, answer_at, answers_at, argument_at, arguments_at, chain_at, call_at, place_of, sites_among}
 use Rattle.cell_eval.proofs.AnswerLaws.{answer_number, answer_text, answer_error, answer_boolean, answer_reference, answer_area, answer_call, answer_parentheses, answer_negation, answer_chain, answers_none, arguments_none}
 use Rattle.cell_eval.proofs.Calling.{built_in_outside, built_in_if, built_in_if_error, built_in_if_na, built_in_choose, built_in_applied, built_in_halts, call_built_in, call_planned, plan_fault, plan_value, plan_halts, planned_at, other_site}
 use Rattle.cell_eval.proofs.Chaining.{answers_drop, arguments_drop, chain_none, chain_begins, chain_stops, chain_goes, chain_breaks, chain_ends}
 use Rattle.cell_eval.proofs.Choosing.{if_none, if_one, if_halts, if_fault, if_met, if_unmet, if_absent, unless_none, unless_one, unless_halts, unless_other, unless_same, choose_none, choose_halts, choose_fault, choose_within, choose_taken}
 use Rattle.cell_eval.proofs.Evaluable.{split, part_at, taken_sites, small_call, small_chain, small_parentheses, small_negation}
 use Rattle.cell_eval.proofs.InputLaws.{rest_of}
-use Rattle.cell_eval.proofs.Halting.{Ahead, Halts-same, Halts-then, Halts-final, ComesTo-same, ComesTo-then, OnOk-from, ahead_first, ahead_next, ahead_halts, ahead_last, memory_halts}
+use Rattle.cell_eval.proofs.Halting.{Ahead, Halts-same, Halts-then, Halts-final, ComesTo-same, OnOk-from, ahead_next, ahead_halts, ahead_last, memory_halts}
 use Rattle.cell_eval.proofs.SiteLaws.{sites_call, sites_chain, sites_parentheses, sites_negation}
-use Rattle.cell_eval.proofs.Taking.{TakenAhead, taken_cells, taken_value, taken_halts, taken_first, taken_next, taken_stops, taken_last, taken_no_memory}
+use Rattle.cell_eval.proofs.Taking.{TakenAhead, taken_cells, taken_value, taken_halts, taken_next, taken_stops, taken_last, taken_no_memory}
 use Rattle.cell_eval.proofs.Weights.{weight, weights, weight_call, weight_chain, weight_parentheses, weight_negation, weight_at}
 use Rattle.formula_parse.specs.declared.nodes.Node.{Node}
 use Rattle.formula_parse.specs.Tree.{site_count}

@@ -1,4 +1,4 @@
-use Rattle.std.proofs.Common.{◌≡◌, ◌+◌, ◌≤◌, All, drop, length}
+use Rattle.std.proofs.Common.{◌≡◌, ◌+◌, All, drop, length}
 use Rattle.functions.specs.Inputs.{IsInput}
 use Rattle.workbook.specs.Evaluation.{Val, with_all, operated_on}
 use Rattle.cell_eval.specs.Jobs.{world_of}

@@ -1,4 +1,4 @@
-use Rattle.std.proofs.Common.{◌≡◌, ap, sym, ◌∙◌}
+use Rattle.std.proofs.Common.{ap, sym, ◌∙◌}
 use Rattle.workbook.specs.Evaluation.{Val, Asks, kind_answer, accepted_answer}
 use Rattle.cell_eval.specs.Jobs.{world_of, result_at}
 use Rattle.cell_eval.proofs.plans.function_answer.Goals as goal

@@ -1,4 +1,4 @@
-use Rattle.std.proofs.Common.{◌≡◌, map, ap, sym, ◌∙◌}
+use Rattle.std.proofs.Common.{map, ap, sym, ◌∙◌}
 use Rattle.cell_values.specs.Coercion.{text_of}
 use Rattle.functions.specs.Inputs.{all_ok}
 use Rattle.workbook.specs.Evaluation.{topic_answer}

@@ -1,4 +1,4 @@
-use Rattle.std.proofs.Common.{◌≡◌, sym, ◌∙◌}
+use Rattle.std.proofs.Common.{sym, ◌∙◌}
 use Rattle.std.proofs.lemmas.List.{nil_from_length}
 use Rattle.cell_refs.specs.Cell.{cell_cmp}
 use Rattle.cell_eval.proofs.InputLaws.{no_entries, one_entry, more_entries, not_below}

@@ -1,4 +1,4 @@
-use Rattle.std.proofs.Common.{◌≡◌, nat_lt, List, ℕ, true, false, length, Some, None, ap, sym, ◌∙◌, arith}
+use Rattle.std.proofs.Common.{nat_lt, List, ℕ, length, Some, None, ap, sym, ◌∙◌, arith}
 use Rattle.std.proofs.lemmas.Bool.Decides.{nat_tests}
 use Rattle.std.specs.List.{list_any}
 use Rattle.std.specs.Str.{chars}
