@@ -349,6 +349,14 @@ fn cells_are_looked_up_on_the_sheet_of_the_formula(rt: HostRuntime) -> Result<()
     assert_eq!(rt; words.as_str(), "6");
     let words = outcome_of(alloc, 2, "=Sheet1!B1+SUM(A1:B2)", known)?;
     assert_eq!(rt; words.as_str(), "11");
+    let known = Known {
+        inputs: &[(1, 1, 2, "4")],
+        ..known
+    };
+    let words = outcome_of(alloc, 1, "=B1+1", known)?;
+    assert_eq!(rt; words.as_str(), "5");
+    let words = outcome_of(alloc, 1, "=RTD(\"f\",\"\",\"a\")", known)?;
+    assert_eq!(rt; words.as_str(), "topic f a");
     Ok(())
 }
 
