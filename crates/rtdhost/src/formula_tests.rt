@@ -179,3 +179,17 @@ fn a_formula_of_4096_terms_and_64_levels(rt: HostRuntime) -> Result<(), Fail> {
     }
     shows(&rt, rt.alloc(), levels.as_str(), "5")
 }
+
+#[test]
+fn a_session_of_areas_functions_and_texts(rt: HostRuntime) -> Result<(), Fail> {
+    let script = "set B1 1\nset B2 x\nset B4 5\nset A1 =SUM(B1:B4)\n\
+        set A2 =IF(A1>5,\"high\",\"low\")&COUNTA(B1:B4)\n\
+        set A3 =IFNA(RTD(\"feed\",\"\",\"px\"),B3)\nset A4 =INDEX(B1:B4,4,1)*-2\n\
+        set Sheet2!A1 =Sheet1!A1=6\ncalc\nprint\n";
+    let want = "ok\nok\nok\nok\nok\nok\nok\nok\nbegun 1\ndone 1 cells 5\n\
+        A1=6\nB1=1\nA2=\"high3\"\nB2=\"x\"\nA3=0\nA4=-10\nB4=5\nSheet2!A1=TRUE\nend\n";
+    for piece in [1, 1000] {
+        plays(&rt, rt.alloc(), script, piece, want)?;
+    }
+    Ok(())
+}
