@@ -1,10 +1,11 @@
 -- Gathering the inputs of a formula: what is gathered at each step of the walk over the cells of its areas.
-use Rattle.std.proofs.Common.{◌≡◌, ◌<◌, ◌⊎◌, inl, inr, Bool, true, false, not, cond, List, [], ◌∷◌, ◌++◌, Option, Some, None, is_some, unwrap_or, refl, ap, sym, subst, ⊎_elim, ◌∙◌}
+use Rattle.std.proofs.Common.{◌≡◌, ◌<◌, Bool, true, false, not, cond, List, [], ◌∷◌, ◌++◌, Option, Some, None, is_some, unwrap_or, refl, ap, sym, subst, ⊎_elim, ◌∙◌}
 use Rattle.std.specs.List.{AllByRecursion}
 use Rattle.std.specs.Map.{keys_of, lookup}
 use Rattle.std.specs.List.Sorted.{IsStrictlySortedBy}
-use Rattle.std.specs.Ordering.{is_le}
+use Rattle.std.specs.Ordering.{is_le, is_lt}
 use Rattle.std.specs.declared.cmp.Ordering.TheVariants.{Less}
+use Rattle.std.proofs.lemmas.Map.Keys.{sorted_head, sorted_tail}
 use Rattle.cell_refs.specs.declared.areas.Area.{Area}
 use Rattle.cell_refs.specs.declared.grid.Cell.{Cell}
 use Rattle.cell_refs.specs.Cell.{cell_cmp, same_cell}
@@ -13,11 +14,13 @@ use Rattle.cell_values.specs.declared.values.Value.TheVariants.{Blank}
 use Rattle.cell_eval.specs.Jobs.{input_of}
 use Rattle.workbook.proofs.Cells.{same_cell_is, same_cells}
 use Rattle.workbook.specs.declared.contents.Content.{Content}
-use Rattle.workbook.specs.Book.{IsInOrder, content_at, first_from}
-use Rattle.rtdhost.specs.Inputs.{AreInputs, known_content, known_formula, known_input}
-use Rattle.rtdhost.specs.Scanning.{IsFirst, IsNext, is_less, lies_in}
+use Rattle.workbook.specs.Book.{IsInOrder, cells_from, content_at}
+use Rattle.rtdhost.specs.declared.gathering.Step.{Step}
+use Rattle.rtdhost.specs.declared.gathering.Step.TheVariants as steps
+use Rattle.rtdhost.specs.Inputs.{AreGathered, AreInputs, IsStep, known_content, known_formula, known_input, steps_ahead}
+use Rattle.rtdhost.specs.Scanning.{IsFirst, IsNext, is_before, is_less, lies_in}
 use Rattle.rtdhost.proofs.AreaCells.{along_areas, fails_among}
-use Rattle.rtdhost.proofs.CellsAhead.{IsFirstFrom, below_is, cells_ahead, first-is, none-from, fewer-ahead, none-ahead, itself_or_greater, less_differs, less_then_at_least, less_then_less}
+use Rattle.rtdhost.proofs.CellsAhead.{all-from, at_key, at_least, below_is, content-from, found_later, found_where, from-in-order, less_differs, less_then_at_least, less_then_less, skipped, steps-end, steps-fall}
 
 -- ---- one more entry
 -- what holds of the cells so far and of one more holds of all
@@ -56,18 +59,6 @@ own_input (e ∷ es) cell v behind =
     ∙ own_input es cell v behind.1
 
 -- ---- the walk
--- whether a cell stands before a place; where there is none, each does
-abbrev pub is_before : Option Cell → Cell → Bool
-is_before None q = true
-is_before (Some place) q = is_less q place
-
--- the entries are those of the cells with content that lie in the areas before a place, in order
-pub record AreGathered (known : Cell → Option Value) (book : List (Cell × Content)) (areas : List Area) (entries : List (Cell × Value)) (place : Option Cell) : Type 0 where
-  pub ordered : IsStrictlySortedBy cell_cmp (keys_of entries)
-  pub before : AllByRecursion (λ k. is_before place k ≡ true) (keys_of entries)
-  pub values : (q : Cell) → is_some (content_at book q) ≡ true → lies_in areas q ≡ true → is_before place q ≡ true → known q ≡ Some (input_of entries q)
-  pub blank : (q : Cell) → content_at book q ≡ None → input_of entries q ≡ Blank
-
 -- no cell of the areas stands before the first
 first_before : (areas : List Area) (first : Option Cell) → IsFirst areas first → (q : Cell) → lies_in areas q ≡ true → is_before first q ≡ true → ⊥
 first_before areas None first q lies before = let no : lies_in areas q ≡ false = first q in cc
@@ -92,43 +83,89 @@ before_next : (areas : List Area) (cell : Cell) (next : Option Cell) → IsNext 
 before_next areas cell None is q less = refl
 before_next areas cell (Some n) is q less = less_then_less q cell n less is.0
 
--- so does the cell itself
-itself_before : (areas : List Area) (cell : Cell) (next : Option Cell) → IsNext areas cell next → is_before next cell ≡ true
-itself_before areas cell None is = refl
-itself_before areas cell (Some n) is = is.0
-
 -- no cell of the areas stands behind a cell and before the next one
 none_between : (areas : List Area) (cell : Cell) (next : Option Cell) → IsNext areas cell next → (q : Cell) → lies_in areas q ≡ true → is_before next q ≡ true → is_less cell q ≡ true → ⊥
 none_between areas cell None is q lies before behind = let no : is_less cell q ≡ false = is q lies in cc
 none_between areas cell (Some n) is q lies before behind = let no : is_less q n ≡ false = is.1 q lies behind in cc
 
--- a cell with content that the walk has passed was passed before, or is the one that it came to
-passed : (book : List (Cell × Content)) (areas : List Area) (seek cell : Cell) (next : Option Cell) → IsFirstFrom book seek cell → IsNext areas cell next
-    → (q : Cell) → is_some (content_at book q) ≡ true → lies_in areas q ≡ true → is_before next q ≡ true → (is_less q seek ≡ true) ⊎ (q ≡ cell)
-passed book areas seek cell next first is q has lies before = passed_if (is_less q seek) refl
-  where
-    passed_if : (b : Bool) → is_less q seek ≡ b → (is_less q seek ≡ true) ⊎ (q ≡ cell)
-    passed_if true less = inl less
-    passed_if false ahead = ⊎_elim (λ same. inr same) (λ behind. absurd (none_between areas cell next is q lies before behind)) (itself_or_greater cell q (first.least q has ahead))
+-- ---- what is left of the walk
+-- these are the contents of a book's cells, in order, and none of the cells is less than a place
+pub record AreLeft (book : List (Cell × Content)) (seek : Cell) (left : List (Cell × Content)) : Type 0 where
+  pub ordered : IsInOrder left
+  pub from : AllByRecursion (λ k. is_le (cell_cmp seek k) ≡ true) (keys_of left)
+  pub contents : (q : Cell) → is_some (content_at left q) ≡ true → content_at book q ≡ content_at left q
 
--- the cells before a place stand before the next one
-keys_next : (areas : List Area) (seek cell : Cell) (next : Option Cell) → is_le (cell_cmp seek cell) ≡ true → IsNext areas cell next
-    → (ks : List Cell) → AllByRecursion (λ k. is_less k seek ≡ true) ks → AllByRecursion (λ k. is_before next k ≡ true) ks
-keys_next areas seek cell next reached is ks each =
-    keys_lead (λ k. is_less k seek ≡ true) (λ k. is_before next k ≡ true) (λ k less. before_next areas cell next is k (less_then_at_least k seek cell less reached)) ks each
+-- a content that is found among those from a place on is the book's
+content_is : (seek q : Cell) (book : List (Cell × Content)) (b : Bool) → is_le (cell_cmp seek q) ≡ b → is_some (content_at (cells_from seek book) q) ≡ true → content_at book q ≡ content_at (cells_from seek book) q
+content_is seek q book true reached has = sym (content-from seek q true book reached)
+content_is seek q book false before has = let none : content_at (cells_from seek book) q ≡ None = content-from seek q false book before in absurd (cc)
 
--- a cell that lies in none of the areas is passed over
-pub gathered-over : (known : Cell → Option Value) (book : List (Cell × Content)) (areas : List Area) (entries : List (Cell × Value)) (seek cell : Cell) (next : Option Cell)
-    → IsFirstFrom book seek cell → IsNext areas cell next → lies_in areas cell ≡ false → AreGathered known book areas entries (Some seek) → AreGathered known book areas entries next
-gathered-over known book areas entries seek cell next first is outside gathered = record {
+-- at the start the part of the book from the place on is left
+pub left-first : (book : List (Cell × Content)) (seek : Cell) → IsInOrder book → AreLeft book seek (cells_from seek book)
+left-first book seek ordered = record {
+  ordered = from-in-order seek book ordered;
+  from = all-from seek book;
+  contents = λ q has. content_is seek q book (is_le (cell_cmp seek q)) refl has;
+}
+
+-- the cells behind the first are greater
+behind_first : (e : Cell × Content) (es : List (Cell × Content)) → IsInOrder (e ∷ es) → AllByRecursion (λ k. is_less e.0 k ≡ true) (keys_of es)
+behind_first e es ordered = keys_lead (λ k. cell_cmp e.0 k ≡ Less) (λ k. is_less e.0 k ≡ true) (λ k less. ap is_lt less) (keys_of es) (sorted_head cell_cmp e.0 (keys_of es) ordered)
+
+-- so they are others
+others_behind : (e : Cell × Content) (es : List (Cell × Content)) (q : Cell) → IsInOrder (e ∷ es) → is_some (content_at es q) ≡ true → same_cell q e.0 ≡ false
+others_behind e es q ordered has = same_cells.symm q e.0 ∙ less_differs e.0 q (at_key (λ k. is_less e.0 k ≡ true) es q has (behind_first e es ordered))
+
+-- behind the first of what is left, the rest is left
+pub left-next : (book : List (Cell × Content)) (seek : Cell) (e : Cell × Content) (es : List (Cell × Content)) → AreLeft book seek (e ∷ es) → AreLeft book seek es
+left-next book seek e es left = record {
+  ordered = sorted_tail cell_cmp e.0 (keys_of es) left.ordered;
+  from = left.from.1;
+  contents = λ q has. left.contents q (found_later q e es has) ∙ skipped q e es (others_behind e es q left.ordered has);
+}
+
+-- the first of what is left is the content of its cell
+pub left-here : (book : List (Cell × Content)) (seek : Cell) (e : Cell × Content) (es : List (Cell × Content)) → AreLeft book seek (e ∷ es) → content_at book e.0 ≡ Some e.1
+left-here book seek e es left =
+    let here : content_at (e ∷ es) e.0 ≡ Some e.1 = ap (λ b. cond b (Some e.1) (lookup (same_cell e.0) es)) (same_cells.refl e.0) in
+    left.contents e.0 (ap is_some here) ∙ here
+
+-- ---- what is taken
+-- the entries are those of the cells with content that lie in the areas and aren't left, in order
+pub record AreTaken (known : Cell → Option Value) (book : List (Cell × Content)) (areas : List Area) (entries : List (Cell × Value)) (left : List (Cell × Content)) : Type 0 where
+  pub ordered : IsStrictlySortedBy cell_cmp (keys_of entries)
+  pub before : AllByRecursion (λ k. AllByRecursion (λ d. is_less k d ≡ true) (keys_of left)) (keys_of entries)
+  pub values : (q : Cell) → is_some (content_at book q) ≡ true → lies_in areas q ≡ true → is_some (content_at left q) ≡ false → known q ≡ Some (input_of entries q)
+  pub blank : (q : Cell) → content_at book q ≡ None → input_of entries q ≡ Blank
+
+-- a cell with content that isn't among those from a place on is less than it
+not_from : (seek q : Cell) (book : List (Cell × Content)) (b : Bool) → is_less q seek ≡ b → is_some (content_at book q) ≡ true → is_some (content_at (cells_from seek book) q) ≡ false → b ≡ true
+not_from seek q book true less has out = refl
+not_from seek q book false ahead has out =
+    let is : content_at (cells_from seek book) q ≡ content_at book q = content-from seek q true book (at_least q seek ahead) in
+    let no : is_some (content_at book q) ≡ false = ap is_some (sym is) ∙ out in
+    cc
+
+-- at the start what was gathered before the place is taken
+pub taken-first : (known : Cell → Option Value) (book : List (Cell × Content)) (areas : List Area) (entries : List (Cell × Value)) (seek : Cell)
+    → AreGathered known book areas entries (Some seek) → AreTaken known book areas entries (cells_from seek book)
+taken-first known book areas entries seek gathered = record {
   ordered = gathered.ordered;
-  before = keys_next areas seek cell next first.reached is (keys_of entries) gathered.before;
-  values = λ q has lies before. ⊎_elim
-      (λ less. gathered.values q has lies less)
-      (λ same. let no : lies_in areas cell ≡ true = subst (λ c. lies_in areas c ≡ true) same lies in cc)
-      (passed book areas seek cell next first is q has lies before);
+  before = keys_lead (λ k. is_less k seek ≡ true) (λ k. AllByRecursion (λ d. is_less k d ≡ true) (keys_of (cells_from seek book)))
+      (λ k less. keys_lead (λ d. is_le (cell_cmp seek d) ≡ true) (λ d. is_less k d ≡ true) (λ d reached. less_then_at_least k seek d less reached) (keys_of (cells_from seek book)) (all-from seek book))
+      (keys_of entries) gathered.before;
+  values = λ q has lies out. gathered.values q has lies (not_from seek q book (is_less q seek) refl has out);
   blank = gathered.blank;
 }
+
+-- the value of a cell after one more entry
+value_after : (known : Cell → Option Value) (entries : List (Cell × Value)) (e : Cell × Content) (es : List (Cell × Content)) (v : Value) (q : Cell) (b : Bool) → same_cell q e.0 ≡ b
+    → AllByRecursion (λ k. is_less k e.0 ≡ true) (keys_of entries) → known e.0 ≡ Some v → is_some (content_at es q) ≡ false
+    → (is_some (content_at (e ∷ es) q) ≡ false → known q ≡ Some (input_of entries q)) → known q ≡ Some (input_of (entries ++ (e.0, v) ∷ []) q)
+value_after known entries e es v q true same behind value out others =
+    subst (λ c. known c ≡ Some (input_of (entries ++ (e.0, v) ∷ []) c)) (sym (same_cell_is q e.0 same)) (value ∙ ap Some (sym (own_input entries e.0 v behind)))
+value_after known entries e es v q false differs behind value out others =
+    others (ap is_some (skipped q e es differs) ∙ out) ∙ ap Some (sym (other_input entries e.0 v q differs))
 
 -- a cell without content isn't one with content
 lacking : (book : List (Cell × Content)) (cell q : Cell) → is_some (content_at book cell) ≡ true → content_at book q ≡ None → same_cell q cell ≡ false
@@ -138,44 +175,61 @@ lacking book cell q has none = lacking_if (same_cell q cell) refl
     lacking_if true same = let no : is_some (content_at book cell) ≡ false = subst (λ c. is_some (content_at book c) ≡ false) (same_cell_is q cell same) (ap is_some none) in cc
     lacking_if false differs = refl
 
--- the value of one that does is added
-pub gathered-more : (known : Cell → Option Value) (book : List (Cell × Content)) (areas : List Area) (entries : List (Cell × Value)) (seek cell : Cell) (v : Value) (next : Option Cell)
-    → IsFirstFrom book seek cell → IsNext areas cell next → known cell ≡ Some v → AreGathered known book areas entries (Some seek) → AreGathered known book areas (entries ++ (cell, v) ∷ []) next
-gathered-more known book areas entries seek cell v next first is value gathered =
-    let behind = keys_lead (λ k. is_less k seek ≡ true) (λ k. is_less k cell ≡ true) (λ k less. less_then_at_least k seek cell less first.reached) (keys_of entries) gathered.before in
+-- the value of the first of what is left is added
+pub taken-more : (known : Cell → Option Value) (book : List (Cell × Content)) (areas : List Area) (entries : List (Cell × Value)) (seek : Cell) (e : Cell × Content) (es : List (Cell × Content)) (v : Value)
+    → AreLeft book seek (e ∷ es) → known e.0 ≡ Some v → AreTaken known book areas entries (e ∷ es) → AreTaken known book areas (entries ++ (e.0, v) ∷ []) es
+taken-more known book areas entries seek e es v left value taken =
+    let behind = keys_lead (λ k. AllByRecursion (λ d. is_less k d ≡ true) (keys_of (e ∷ es))) (λ k. is_less k e.0 ≡ true) (λ k each. each.0) (keys_of entries) taken.before in
     record {
-      ordered = sorted_more entries cell v gathered.ordered behind;
-      before = keys_more (λ k. is_before next k ≡ true) entries cell v (keys_next areas seek cell next first.reached is (keys_of entries) gathered.before) (itself_before areas cell next is);
-      values = λ q has lies before. ⊎_elim
-          (λ less. gathered.values q has lies less ∙ ap Some (sym (other_input entries cell v q (less_differs q cell (less_then_at_least q seek cell less first.reached)))))
-          (λ same. subst (λ c. known c ≡ Some (input_of (entries ++ (cell, v) ∷ []) c)) (sym same) (value ∙ ap Some (sym (own_input entries cell v behind))))
-          (passed book areas seek cell next first is q has lies before);
-      blank = λ q none. other_input entries cell v q (lacking book cell q first.content none) ∙ gathered.blank q none;
+      ordered = sorted_more entries e.0 v taken.ordered behind;
+      before = keys_more (λ k. AllByRecursion (λ d. is_less k d ≡ true) (keys_of es)) entries e.0 v
+          (keys_lead (λ k. AllByRecursion (λ d. is_less k d ≡ true) (keys_of (e ∷ es))) (λ k. AllByRecursion (λ d. is_less k d ≡ true) (keys_of es)) (λ k each. each.1) (keys_of entries) taken.before)
+          (behind_first e es left.ordered);
+      values = λ q has lies out. value_after known entries e es v q (same_cell q e.0) refl behind value out (taken.values q has lies);
+      blank = λ q none. other_input entries e.0 v q (lacking book e.0 q (ap is_some (left-here book seek e es left)) none) ∙ taken.blank q none;
     }
+
+-- a cell of the areas before the next one isn't left where the first of what is left lies beside them
+none_left : (areas : List Area) (e : Cell × Content) (es : List (Cell × Content)) (next : Option Cell) (q : Cell) (b : Bool) → is_some (content_at (e ∷ es) q) ≡ b → IsInOrder (e ∷ es) → IsNext areas e.0 next → lies_in areas e.0 ≡ false
+    → lies_in areas q ≡ true → is_before next q ≡ true → b ≡ false
+none_left areas e es next q false out ordered is outside lies before = refl
+none_left areas e es next q true has ordered is outside lies before = absurd (⊎_elim
+    (λ same. let no : lies_in areas e.0 ≡ true = subst (λ c. lies_in areas c ≡ true) same lies in cc)
+    (λ later. none_between areas e.0 next is q lies before (at_key (λ k. is_less e.0 k ≡ true) es q later (behind_first e es ordered)))
+    (found_where q e es has))
+
+-- where the first of what is left lies beside the areas, all before the next cell of the areas is gathered
+gathered_beside : (known : Cell → Option Value) (book : List (Cell × Content)) (areas : List Area) (entries : List (Cell × Value)) (seek : Cell) (e : Cell × Content) (es : List (Cell × Content)) (next : Option Cell)
+    → AreLeft book seek (e ∷ es) → IsNext areas e.0 next → lies_in areas e.0 ≡ false → AreTaken known book areas entries (e ∷ es) → AreGathered known book areas entries next
+gathered_beside known book areas entries seek e es next left is outside taken = record {
+  ordered = taken.ordered;
+  before = keys_lead (λ k. AllByRecursion (λ d. is_less k d ≡ true) (keys_of (e ∷ es))) (λ k. is_before next k ≡ true) (λ k each. before_next areas e.0 next is k each.0) (keys_of entries) taken.before;
+  values = λ q has lies before. taken.values q has lies (none_left areas e es next q (is_some (content_at (e ∷ es) q)) refl left.ordered is outside lies before);
+  blank = taken.blank;
+}
+
+-- where nothing is left, all is gathered
+gathered_end : (known : Cell → Option Value) (book : List (Cell × Content)) (areas : List Area) (entries : List (Cell × Value)) → AreTaken known book areas entries [] → AreGathered known book areas entries None
+gathered_end known book areas entries taken = record {
+  ordered = taken.ordered;
+  before = keys_lead (λ k. Unit {0}) (λ k. is_before None k ≡ true) (λ k _. refl) (keys_of entries) taken.before;
+  values = λ q has lies _. taken.values q has lies refl;
+  blank = taken.blank;
+}
 
 -- ---- the ends of the walk
 -- each cell without content is known to be blank
 abbrev pub KnowsBlank : (Cell → Option Value) → List (Cell × Content) → Type 0
 KnowsBlank known book = (q : Cell) → content_at book q ≡ None → known q ≡ Some Blank
 
--- where no cell with content is ahead, what is gathered is the inputs
-inputs_along : (known : Cell → Option Value) (book : List (Cell × Content)) (areas : List Area) (entries : List (Cell × Value)) (place : Option Cell) → KnowsBlank known book
-    → ((q : Cell) → is_some (content_at book q) ≡ true → is_before place q ≡ true) → AreGathered known book areas entries place → AreInputs known areas (Some entries)
-inputs_along known book areas entries place blanks all gathered =
+-- where the walk ends, what is gathered is the inputs
+pub gathered-all : (known : Cell → Option Value) (book : List (Cell × Content)) (areas : List Area) (entries : List (Cell × Value)) → KnowsBlank known book → AreGathered known book areas entries None → AreInputs known areas (Some entries)
+gathered-all known book areas entries blanks gathered =
     along_areas (λ q. known q ≡ Some (input_of entries q)) areas (λ q lies. value_of (content_at book q) q refl lies)
   where
     value_of : (o : Option Content) (q : Cell) → content_at book q ≡ o → lies_in areas q ≡ true → known q ≡ Some (input_of entries q)
     value_of None q none lies = blanks q none ∙ ap Some (sym (gathered.blank q none))
-    value_of (Some x) q some lies = gathered.values q (ap is_some some) lies (all q (ap is_some some))
-
--- where the areas end
-pub gathered-all : (known : Cell → Option Value) (book : List (Cell × Content)) (areas : List Area) (entries : List (Cell × Value)) → KnowsBlank known book → AreGathered known book areas entries None → AreInputs known areas (Some entries)
-gathered-all known book areas entries blanks gathered = inputs_along known book areas entries None blanks (λ q _. refl) gathered
-
--- where the book ends
-pub gathered-rest : (known : Cell → Option Value) (book : List (Cell × Content)) (areas : List Area) (entries : List (Cell × Value)) (seek : Cell) → KnowsBlank known book → first_from book seek ≡ None
-    → AreGathered known book areas entries (Some seek) → AreInputs known areas (Some entries)
-gathered-rest known book areas entries seek blanks none gathered = inputs_along known book areas entries (Some seek) blanks (none-from seek book none) gathered
+    value_of (Some x) q some lies = gathered.values q (ap is_some some) lies refl
 
 -- where the value of a cell of the areas isn't known
 pub unknown-ends : (known : Cell → Option Value) (areas : List Area) (cell : Cell) → lies_in areas cell ≡ true → known cell ≡ None → AreInputs known areas None
@@ -185,6 +239,11 @@ unknown-ends known areas cell lies none = fails_among (λ d. is_some (known d)) 
 pub knows-blank : (book : List (Cell × Content)) (stale : List Cell) (sheet : List (Cell × Option Value)) (finished : List (Cell × Value)) → KnowsBlank (known_input book stale sheet finished) book
 knows-blank book stale sheet finished q none = ap (λ o. known_content o (known_formula stale sheet finished q)) none
 
+-- what is known of the value of a cell with this content
+pub known-here : (book : List (Cell × Content)) (stale : List Cell) (sheet : List (Cell × Option Value)) (finished : List (Cell × Value)) (cell : Cell) (x : Content) (v : Option Value)
+    → content_at book cell ≡ Some x → v ≡ known_content (Some x) (known_formula stale sheet finished cell) → known_input book stale sheet finished cell ≡ v
+known-here book stale sheet finished cell x v some is = ap (λ o. known_content o (known_formula stale sheet finished cell)) some ∙ sym is
+
 -- ---- for the function
 -- what is gathered, where the entries and the place are equal to others
 pub gathered-as : (known : Cell → Option Value) (book : List (Cell × Content)) (areas : List Area) (entries others : List (Cell × Value)) (place other : Option Cell)
@@ -192,16 +251,39 @@ pub gathered-as : (known : Cell → Option Value) (book : List (Cell × Content)
 gathered-as known book areas entries others place other gathered same at =
     subst (λ p. AreGathered known book areas others p) at (subst (λ es. AreGathered known book areas es place) same gathered)
 
+-- what is left, where it is equal to another list
+pub left-as : (book : List (Cell × Content)) (seek : Cell) (left other : List (Cell × Content)) → AreLeft book seek left → left ≡ other → AreLeft book seek other
+left-as book seek left other are same = subst (AreLeft book seek) same are
+
+-- what is taken, where the entries and what is left are equal to others
+pub taken-as : (known : Cell → Option Value) (book : List (Cell × Content)) (areas : List Area) (entries others : List (Cell × Value)) (left other : List (Cell × Content))
+    → AreTaken known book areas entries left → entries ≡ others → left ≡ other → AreTaken known book areas others other
+taken-as known book areas entries others left other taken same at =
+    subst (λ rest. AreTaken known book areas others rest) at (subst (λ es. AreTaken known book areas es left) same taken)
+
+-- the step that comes to a cell beside the areas
+pub step-beside : (known : Cell → Option Value) (book : List (Cell × Content)) (areas : List Area) (entries : List (Cell × Value)) (seek : Cell) (e : Cell × Content) (es : List (Cell × Content)) (next : Option Cell)
+    → AreLeft book seek (e ∷ es) → IsNext areas e.0 next → lies_in areas e.0 ≡ false → AreTaken known book areas entries (e ∷ es) → IsStep known book areas entries seek (steps.On next)
+step-beside known book areas entries seek e es next left is outside taken = (
+  gathered_beside known book areas entries seek e es next left is outside taken,
+  steps-fall book areas seek e.0 next (ap is_some (left-here book seek e es left)) left.from.0 is,
+)
+
+-- the step that comes to the end of the book
+pub step-end : (known : Cell → Option Value) (book : List (Cell × Content)) (areas : List Area) (entries : List (Cell × Value)) (seek : Cell) → AreTaken known book areas entries [] → IsStep known book areas entries seek (steps.On None)
+step-end known book areas entries seek taken = (gathered_end known book areas entries taken, steps-end book seek)
+
+-- what a step comes to, where it goes on
+pub step-on : (known : Cell → Option Value) (book : List (Cell × Content)) (areas : List Area) (entries : List (Cell × Value)) (seek : Cell) (step : Step) (next : Option Cell)
+    → IsStep known book areas entries seek step → step ≡ steps.On next → IsStep known book areas entries seek (steps.On next)
+step-on known book areas entries seek step next is at = subst (IsStep known book areas entries seek) at is
+
+-- each step leaves fewer steps ahead
+pub step-falls : (known : Cell → Option Value) (book : List (Cell × Content)) (areas : List Area) (entries : List (Cell × Value)) (place : Option Cell) (seek : Cell) (step : Step) (next : Option Cell)
+    → place ≡ Some seek → IsStep known book areas entries seek step → step ≡ steps.On next → steps_ahead book next < steps_ahead book place
+step-falls known book areas entries place seek step next from is at =
+    subst (λ p. steps_ahead book next < steps_ahead book p) (sym from) (step-on known book areas entries seek step next is at).1
+
 -- what the entries are after one that could be added
 pub added-entries : (old new : List (Cell × Value)) (e : Cell × Value) (ok failed : Bool) → new ≡ cond ok (old ++ e ∷ []) old → ok ≡ not failed → failed ≡ false → old ++ e ∷ [] ≡ new
 added-entries old new e ok failed is turned done = sym (is ∙ ap (λ b. cond b (old ++ e ∷ []) old) (turned ∙ ap not done))
-
--- behind a cell that the walk came to there are fewer cells of the book
-steps_ahead : (book : List (Cell × Content)) (areas : List Area) (seek cell : Cell) (next : Option Cell) → IsInOrder book → first_from book seek ≡ Some cell → IsNext areas cell next → cells_ahead book next < cells_ahead book (Some seek)
-steps_ahead book areas seek cell None ordered first is = none-ahead book seek cell first
-steps_ahead book areas seek cell (Some n) ordered first is = fewer-ahead book seek cell n first (first-is seek cell book ordered first).reached is.0
-
--- each step leaves fewer cells of the book ahead
-pub gathering-falls : (book : List (Cell × Content)) (areas : List Area) (place : Option Cell) (seek cell : Cell) (next : Option Cell) → IsInOrder book → place ≡ Some seek → first_from book seek ≡ Some cell → IsNext areas cell next
-    → cells_ahead book next < cells_ahead book place
-gathering-falls book areas place seek cell next ordered at first is = subst (λ p. cells_ahead book next < cells_ahead book p) (sym at) (steps_ahead book areas seek cell next ordered first is)

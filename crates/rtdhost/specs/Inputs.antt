@@ -1,24 +1,28 @@
 -- What is known of the values of cells while a recalculation goes on.
-use Rattle.std.specs.Prelude.{◌≡◌, true, false, if◌then◌else◌, Option, None, Some, is_some, unwrap_or, List, ◌⊎◌, option_and_then}
+use Rattle.std.specs.Prelude.{◌≡◌, ℕ, ◌+◌, ◌<◌, length, true, false, if◌then◌else◌, Option, None, Some, is_some, unwrap_or, List, ◌⊎◌, option_and_then}
 use Rattle.std.specs.List.{AllByRecursion, flat_map, list_all}
-use Rattle.std.specs.Map.{lookup}
+use Rattle.std.specs.List.Sorted.{IsStrictlySortedBy}
+use Rattle.std.specs.Map.{keys_of, lookup}
 use Rattle.cell_eval.specs.Jobs.{input_of}
 use Rattle.cell_refs.specs.declared.areas.Area.{Area}
 use Rattle.cell_refs.specs.declared.grid.Cell.{Cell}
 use Rattle.cell_refs.specs.Area.{cells_of}
-use Rattle.cell_refs.specs.Cell.{same_cell}
+use Rattle.cell_refs.specs.Cell.{cell_cmp, same_cell}
 use Rattle.cell_values.specs.declared.values.Value.{Value}
 use Rattle.cell_values.specs.declared.values.Value.TheVariants.{Blank, Num as Number', Text as Text', Bool as Bool', Error as Error'}
 use Rattle.formula_parse.specs.declared.nodes.Node.{Node}
 use Rattle.formula_parse.specs.Tree.{precedents}
 use Rattle.workbook.specs.declared.contents.Content.{Content}
 use Rattle.workbook.specs.declared.contents.Content.TheVariants as contents
-use Rattle.workbook.specs.Book.{content_at, is_formula}
+use Rattle.workbook.specs.Book.{cells_from, content_at, is_formula}
 use Rattle.workbook.specs.Evaluation.{Answer, Val, Asks, Needs, evaluated}
 use Rattle.workbook.specs.Meaning as meanings
 use Rattle.workbook.specs.Meaning.{meaning, shown, world_at}
 use Rattle.workbook.specs.Stale.{is_among}
 use Rattle.workbook.specs.State.{alone}
+use Rattle.rtdhost.specs.declared.gathering.Step.{Step}
+use Rattle.rtdhost.specs.declared.gathering.Step.TheVariants as steps
+use Rattle.rtdhost.specs.Scanning.{is_before, lies_in}
 
 -- the value of a constant, or what is known of a formula's
 abbrev pub known_content : Option Content → Option Value → Option Value
@@ -42,6 +46,23 @@ known_input book stale sheet finished cell = known_content (content_at book cell
 abbrev pub AreInputs : (Cell → Option Value) → List Area → Option (List (Cell × Value)) → Type 0
 AreInputs known areas None = list_all (λ d. is_some (known d)) (flat_map cells_of areas) ≡ false
 AreInputs known areas (Some inputs) = AllByRecursion (λ d. known d ≡ Some (input_of inputs d)) (flat_map cells_of areas)
+
+-- the entries are those of the cells with content that lie in the areas before a place, in order
+pub record AreGathered (known : Cell → Option Value) (book : List (Cell × Content)) (areas : List Area) (entries : List (Cell × Value)) (place : Option Cell) : Type 0 where
+  pub ordered : IsStrictlySortedBy cell_cmp (keys_of entries)
+  pub before : AllByRecursion (λ k. is_before place k ≡ true) (keys_of entries)
+  pub values : (q : Cell) → is_some (content_at book q) ≡ true → lies_in areas q ≡ true → is_before place q ≡ true → known q ≡ Some (input_of entries q)
+  pub blank : (q : Cell) → content_at book q ≡ None → input_of entries q ≡ Blank
+
+-- how many steps are ahead at most: one for each cell of the book that isn't less than the place, and one for the end; none where there is no place
+abbrev pub steps_ahead : List (Cell × Content) → Option Cell → ℕ
+steps_ahead book None = 0
+steps_ahead book (Some from) = 1 + length (cells_from from book)
+
+-- a step from a place on came to the next place with fewer steps ahead, and the entries are gathered up to there; or the value of a cell of the areas isn't known
+abbrev pub IsStep : (Cell → Option Value) → List (Cell × Content) → List Area → List (Cell × Value) → Cell → Step → Type 0
+IsStep known book areas entries seek (steps.On next) = AreGathered known book areas entries next × (steps_ahead book next < steps_ahead book (Some seek))
+IsStep known book areas entries seek steps.Unknown = AreInputs known areas None
 
 -- the value that an answer is
 abbrev pub answer_value : Answer → Option Value

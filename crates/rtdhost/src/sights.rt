@@ -1,7 +1,7 @@
 //! What a recalculation sees: the book, and what is known of the values of its cells.
 
 ghost use Rattle.std.specs.Prelude.{◌≡◌, IfOk, option_copied, None, Some};
-ghost use Rattle.rtdhost.specs.Inputs.{known_content, known_formula, known_input};
+ghost use Rattle.rtdhost.specs.Inputs.{known_content, known_formula};
 
 use cell_refs::Cell;
 use cell_values::{Memory, Value};
@@ -57,18 +57,18 @@ fn known_formula(
     }
 }
 
-/// What is known of the value of a cell.
-pub fn known_input(
+/// What is known of the value of a cell that has this content.
+pub fn known_value(
     sight: Sight<'_>,
     finished: &BTreeMap<Cell, Value>,
     cell: Cell,
+    content: &Content,
 ) -> Result<Option<Value>, Memory>
     ensures { IfOk result (λ value. value
-        ≡ known_input sight.entry.book.now.contents sight.entry.stale.now.keys sight.entry.sheet.now.entries finished.now.entries cell) }
+        ≡ known_content (Some content.now) (known_formula sight.entry.stale.now.keys sight.entry.sheet.now.entries finished.now.entries cell)) }
 {
-    match sight.book.get(cell) {
-        None => Ok(Some(Value::Blank)),
-        Some(Content::Formula(_)) => known_formula(sight, finished, cell),
-        Some(constant) => constant_value(constant),
+    match content {
+        Content::Formula(_) => known_formula(sight, finished, cell),
+        constant => constant_value(constant),
     }
 }

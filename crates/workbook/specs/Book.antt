@@ -116,7 +116,3 @@ next_cell book after = first_cell (cells_after after book)
 -- the part of a book from a cell on
 abbrev pub cells_from : Cell → List (Cell × Content) → List (Cell × Content)
 cells_from from book = filter (λ e. is_le (cell_cmp from e.0)) book
-
--- the least cell with content among those that aren't less than from
-abbrev pub first_from : List (Cell × Content) → Cell → Option Cell
-first_from book from = first_cell (cells_from from book)

@@ -9,6 +9,7 @@ use cell_refs::Cell;
 use cell_values::{Memory, Name};
 use std::alloc::Global;
 use std::collections::BTreeMap;
+use std::collections::btree_map::Range;
 use std::marker::Model;
 use std::ops::Bound;
 
@@ -53,11 +54,12 @@ impl Model for Book {
 }
 
 impl Book {
-    ghost use Rattle.std.specs.Prelude.{[], None, Some, false, length, ◌≤◌, OnOk, OnErr, IfErr, MatchResult, option_copied};
+    ghost use Rattle.std.specs.Prelude.{[], None, Some, false, length, ◌<◌, ◌≤◌, ◌^◌, OnOk, OnErr, IfErr, MatchResult, option_copied};
     ghost use Rattle.std.specs.BTreeMap.{insert_entry};
     ghost use Rattle.std.specs.Map.{remove_entry};
+    ghost use Rattle.std.specs.Map.Iter.{ShowsInOrder, deref_pair};
     ghost use Rattle.cell_refs.specs.Cell.{cell_cmp, same_cell};
-    ghost use Rattle.workbook.specs.Book.{CELL_LIMIT, FORMULA_LIMIT, content_at, formula_count, is_formula, next_cell, first_from, IsInOrder, SetsContent, PutsContent, limit_fault, exceeds_cells, exceeds_formulas, IsRefusal};
+    ghost use Rattle.workbook.specs.Book.{CELL_LIMIT, FORMULA_LIMIT, content_at, formula_count, is_formula, next_cell, cells_from, IsInOrder, SetsContent, PutsContent, limit_fault, exceeds_cells, exceeds_formulas, IsRefusal};
     ghost use Rattle.workbook.specs.Functions.{AreInOrder, name_cmp, registration_of, next_name};
     ghost use Rattle.workbook.specs.declared.books.SetFault.TheVariants as faults;
 
@@ -214,19 +216,15 @@ impl Book {
         }
     }
 
-    /// The least cell with content among those that aren't less than `from`.
-    pub fn first_from(&self, from: Cell) -> Option<Cell>
-        ensures first { result ≡ first_from self.now.contents from }
+    /// The cells with content from a cell on, in order, each with its content.
+    pub fn contents_from(&self, from: Cell) -> Range<'_, Cell, Content>
+        ensures entries { result ≡ cells_from from self.now.contents }
+        ensures runs { ShowsInOrder (deref_pair {K = Cell} {X = Content}) }
+        ensures fits { length result < 2 ^ 63 }
         ensures ordered { IsInOrder self.now.contents }
     {
-        match self
-            .contents
+        self.contents
             .range((Bound::Included(&from), Bound::Unbounded))
-            .next()
-        {
-            None => None,
-            Some((cell, _)) => Some(*cell),
-        }
     }
 
     /// Registers a function, in place of any of that name. A refusal changes nothing.

@@ -198,10 +198,17 @@ fn cells_go_by_sheet_then_row_then_column(rt: HostRuntime) {
     }
     assert_eq!(rt; book.next_cell(last), None);
     assert_eq!(rt; book.next_cell(Some(cell(1, 2, 2))), Some(cell(1, 10, 1)));
-    assert_eq!(rt; book.first_from(cell(1, 2, 1)), Some(cell(1, 2, 1)));
-    assert_eq!(rt; book.first_from(cell(1, 2, 2)), Some(cell(1, 10, 1)));
-    assert_eq!(rt; book.first_from(cell(1, 10, 2)), Some(cell(2, 1, 1)));
-    assert_eq!(rt; book.first_from(cell(2, 1, 2)), None);
+    for (from, cells) in [
+        (cell(1, 2, 1), [Some(cell(1, 2, 1)), Some(cell(1, 10, 1))]),
+        (cell(1, 2, 2), [Some(cell(1, 10, 1)), Some(cell(2, 1, 1))]),
+        (cell(1, 10, 2), [Some(cell(2, 1, 1)), None]),
+        (cell(2, 1, 2), [None, None]),
+    ] {
+        let mut contents = book.contents_from(from);
+        for cell in cells {
+            assert_eq!(rt; contents.next().map(|(cell, _)| *cell), cell);
+        }
+    }
 }
 
 #[test]
