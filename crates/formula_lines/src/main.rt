@@ -2,12 +2,19 @@
 //! All of them are kept to the end, so that what they hold can be measured.
 #![tactic(auto)]
 
+ghost use Rattle.std.specs.Prelude.{◌≡◌, IfOk};
+ghost use Rattle.std.specs.String.{string_bytes};
+ghost use Rattle.formula_parse.specs.Printing.{printed};
+ghost use Rattle.formula_lines.specs.Words.{word_of};
+
 use formula_parse::{ParseFault, Tree, parse, print};
 use std::alloc::Global;
 use std::io;
 
 /// The canonical text of a formula.
-fn canonical(alloc: Global, tree: &Tree) -> io::Result<String> {
+fn canonical(alloc: Global, tree: &Tree) -> io::Result<String>
+    ensures { IfOk result (λ text. string_bytes text ≡ printed tree.now) }
+{
     let mut out = Vec::new(alloc);
     if print(tree, &mut out).is_err() {
         return Err(io::Error::from(io::ErrorKind::OutOfMemory));
@@ -16,7 +23,9 @@ fn canonical(alloc: Global, tree: &Tree) -> io::Result<String> {
 }
 
 /// The word of a fault.
-fn word(fault: ParseFault) -> &'static str {
+fn word(fault: ParseFault) -> &'static str
+    ensures { result.now ≡ word_of fault }
+{
     match fault {
         ParseFault::Memory => "memory",
         ParseFault::TooLong => "long",
