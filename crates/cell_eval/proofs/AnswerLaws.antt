@@ -14,7 +14,7 @@ use Rattle.formula_parse.specs.declared.nodes.Node.{Node}
 use Rattle.formula_parse.specs.declared.nodes.Node.TheVariants as nodes
 use Rattle.formula_parse.specs.declared.operators.Operator.{Operator}
 use Rattle.formula_parse.specs.Tree.{site_count}
-use Rattle.workbook.specs.Evaluation.{World, Part, Val, Argument, part_of, part_step, placed, answers_of, failed, final_answer, then_with, negated_times}
+use Rattle.workbook.specs.Evaluation.{World, Part, Val, Argument, part_of, part_step, arguments_of, answers_of, error_answer, final_answer, then_with, repeated_negation}
 
 -- the answer of a number
 pub answer_number : (world : World) (n : ℤ) (before : ℕ) → answer_at world (nodes.Number n) before ≡ Val (values.Num n)
@@ -42,7 +42,7 @@ unfolding answer_at
 answer_reference world r before = ap (λ (part : Part). part.value before) (fold_reference Part (part_step world) r)
 
 -- the answer of an area
-pub answer_area : (world : World) (a b : RefText) (before : ℕ) → answer_at world (nodes.Area a b) before ≡ failed errors.Value
+pub answer_area : (world : World) (a b : RefText) (before : ℕ) → answer_at world (nodes.Area a b) before ≡ error_answer errors.Value
 unfolding answer_at
 answer_area world a b before = ap (λ (part : Part). part.value before) (fold_area Part (part_step world) a b)
 
@@ -57,7 +57,7 @@ unfolding answer_at
 answer_parentheses world inner before = ap (λ (part : Part). part.value before) (fold_parentheses Part (part_step world) inner)
 
 -- the answer of an operand behind signs
-pub answer_negation : (world : World) (count : ℕ) (operand : Node) (before : ℕ) → answer_at world (nodes.Negation count operand) before ≡ then_with (answer_at world operand before) (λ v. Val (negated_times count v))
+pub answer_negation : (world : World) (count : ℕ) (operand : Node) (before : ℕ) → answer_at world (nodes.Negation count operand) before ≡ then_with (answer_at world operand before) (λ v. Val (repeated_negation count v))
 unfolding answer_at
 answer_negation world count operand before = ap (λ (part : Part). part.value before) (fold_negation Part (part_step world) count operand)
 
@@ -86,10 +86,10 @@ arguments_none world before = refl
 pub arguments_first : (world : World) (n : Node) (ns : List Node) (before : ℕ) → arguments_at world (n ∷ ns) before ≡ (record { area = area_at world n; value = answer_at world n before }) ∷ arguments_at world ns (before + site_count n)
 unfolding arguments_at answer_at area_at
 arguments_first world n ns before =
-    ap (λ k. (record { area = (part_of world n).area; value = (part_of world n).value before }) ∷ placed (before + k) (map (part_of world) ns)) (part_sites world n)
+    ap (λ k. (record { area = (part_of world n).area; value = (part_of world n).value before }) ∷ arguments_of (before + k) (map (part_of world) ns)) (part_sites world n)
 
 -- the answers of arguments are those of their parts
-placed_values : (before : ℕ) (parts : List Part) → map (λ (a : Argument). a.value) (placed before parts) ≡ answers_of before parts
+placed_values : (before : ℕ) (parts : List Part) → map (λ (a : Argument). a.value) (arguments_of before parts) ≡ answers_of before parts
 placed_values before [] = refl
 placed_values before (part ∷ parts) = ap (λ list. part.value before ∷ list) (placed_values (before + part.sites) parts)
 
@@ -98,7 +98,7 @@ unfolding arguments_at answers_at
 argument_values world ns before = placed_values before (map (part_of world) ns)
 
 -- there are as many arguments as parts
-placed_count : (before : ℕ) (parts : List Part) → length (placed before parts) ≡ length parts
+placed_count : (before : ℕ) (parts : List Part) → length (arguments_of before parts) ≡ length parts
 placed_count before [] = refl
 placed_count before (part ∷ parts) = ap suc (placed_count (before + part.sites) parts)
 

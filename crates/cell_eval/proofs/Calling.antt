@@ -20,21 +20,21 @@ use Rattle.formula_parse.specs.declared.nodes.Node.{Node}
 use Rattle.functions.specs.declared.arguments.Arg.{Arg}
 use Rattle.functions.specs.declared.functions.Function.{Function}
 use Rattle.functions.specs.declared.functions.Function.TheVariants as functions
-use Rattle.functions.specs.Applied.{applied}
+use Rattle.functions.specs.Applied.{result_of}
 use Rattle.functions.specs.Functions.{function_named, arity_of}
 use Rattle.functions.specs.Inputs.{all_ok}
 use Rattle.functions.specs.Kinds.{is_error, is_na}
-use Rattle.workbook.specs.Evaluation.{World, Answer, Val, Argument, failed, with_all, with_inputs, call_answer, function_answer, rtd_answer, added_answer, topic_answer, kind_answer, is_within, own_site}
+use Rattle.workbook.specs.Evaluation.{World, Answer, Val, Argument, error_answer, with_all, with_inputs, call_answer, function_answer, rtd_answer, added_answer, topic_answer, kind_answer, is_within, own_site}
 
 -- ---- calls of functions
 -- by whether the count of arguments is right
-by_count : (world : World) (f : Function) (ns : List Node) (before : ℕ) (b : Bool) → is_within (arity_of f) (length ns) ≡ b → built_in_at world f ns before ≡ cond b (function_answer world f (arguments_at world ns before)) (failed errors.Value)
+by_count : (world : World) (f : Function) (ns : List Node) (before : ℕ) (b : Bool) → is_within (arity_of f) (length ns) ≡ b → built_in_at world f ns before ≡ cond b (function_answer world f (arguments_at world ns before)) (error_answer errors.Value)
 unfolding built_in_at
 by_count world f ns before b e =
-    ap (λ t. cond t (function_answer world f (arguments_at world ns before)) (failed errors.Value)) (ap (is_within (arity_of f)) (argument_count world ns before) ∙ e)
+    ap (λ t. cond t (function_answer world f (arguments_at world ns before)) (error_answer errors.Value)) (ap (is_within (arity_of f)) (argument_count world ns before) ∙ e)
 
 -- a wrong count
-pub built_in_outside : (world : World) (f : Function) (ns : List Node) (before : ℕ) → is_within (arity_of f) (length ns) ≡ false → built_in_at world f ns before ≡ failed errors.Value
+pub built_in_outside : (world : World) (f : Function) (ns : List Node) (before : ℕ) → is_within (arity_of f) (length ns) ≡ false → built_in_at world f ns before ≡ error_answer errors.Value
 built_in_outside world f ns before e = by_count world f ns before false e
 
 -- IF, IFERROR, IFNA and CHOOSE
@@ -56,7 +56,7 @@ built_in_choose world f ns before e is = by_count world f ns before true e ∙ a
 
 -- another function
 other_function : (world : World) (f : Function) (arguments : List Argument) → f ≢ functions.If → f ≢ functions.IfError → f ≢ functions.IfNa → f ≢ functions.Choose
-    → function_answer world f arguments ≡ with_inputs world f 0 arguments (λ args. Val (applied f args))
+    → function_answer world f arguments ≡ with_inputs world f 0 arguments (λ args. Val (result_of f args))
 other_function world functions.If arguments p q r s = absurd (p refl)
 other_function world functions.IfError arguments p q r s = absurd (q refl)
 other_function world functions.IfNa arguments p q r s = absurd (r refl)
@@ -64,16 +64,16 @@ other_function world functions.Choose arguments p q r s = absurd (s refl)
 other_function world f arguments p q r s = refl
 
 built_in_other : (world : World) (f : Function) (ns : List Node) (before : ℕ) → is_within (arity_of f) (length ns) ≡ true → f ≢ functions.If → f ≢ functions.IfError → f ≢ functions.IfNa → f ≢ functions.Choose
-    → built_in_at world f ns before ≡ with_inputs world f 0 (arguments_at world ns before) (λ args. Val (applied f args))
+    → built_in_at world f ns before ≡ with_inputs world f 0 (arguments_at world ns before) (λ args. Val (result_of f args))
 built_in_other world f ns before e p q r s = by_count world f ns before true e ∙ other_function world f (arguments_at world ns before) p q r s
 
 pub built_in_applied : (world : World) (f : Function) (ns : List Node) (before : ℕ) (args : List Arg) → is_within (arity_of f) (length ns) ≡ true → f ≢ functions.If → f ≢ functions.IfError → f ≢ functions.IfNa → f ≢ functions.Choose
-    → AreTaken world f 0 (arguments_at world ns before) args → built_in_at world f ns before ≡ Val (applied f args)
-built_in_applied world f ns before args e p q r s h = built_in_other world f ns before e p q r s ∙ h.goes_on (λ list. Val (applied f list))
+    → AreTaken world f 0 (arguments_at world ns before) args → built_in_at world f ns before ≡ Val (result_of f args)
+built_in_applied world f ns before args e p q r s h = built_in_other world f ns before e p q r s ∙ h.goes_on (λ list. Val (result_of f list))
 
 pub built_in_halts : (world : World) (f : Function) (ns : List Node) (before : ℕ) (halt : Halt) → is_within (arity_of f) (length ns) ≡ true → f ≢ functions.If → f ≢ functions.IfError → f ≢ functions.IfNa → f ≢ functions.Choose
     → HaltTaken world f 0 (arguments_at world ns before) halt → Halts (built_in_at world f ns before) halt
-built_in_halts world f ns before halt e p q r s h = Halts-same _ _ halt (built_in_other world f ns before e p q r s) (h.stays (λ list. Val (applied f list)))
+built_in_halts world f ns before halt e p q r s h = Halts-same _ _ halt (built_in_other world f ns before e p q r s) (h.stays (λ list. Val (result_of f list)))
 
 -- ---- calls by name
 -- a function's name is built in
@@ -105,7 +105,7 @@ other_site name text different e same is =
 
 -- what becomes of a call of another name
 pub planned_at : World → Plan → ℕ → List ℕ → List Argument → Answer
-planned_at world (plans.Fault kind) site name arguments = failed kind
+planned_at world (plans.Fault kind) site name arguments = error_answer kind
 planned_at world plans.Topic site name arguments = with_all (map (λ (a : Argument). a.value) arguments) (λ vs. topic_answer world (all_ok (map text_of vs)))
 planned_at world (plans.Function kind) site name arguments = with_all (map (λ (a : Argument). a.value) arguments) (λ vs. kind_answer world kind site name (map final_of vs))
 
@@ -114,9 +114,9 @@ counted : (world : World) (registration : Registration) (right : Bool) (site : �
     → added_answer world (Some registration) site name arguments ≡ planned_at world (cond right (plans.Function registration.kind) (plans.Fault errors.Value)) site name arguments
 unfolding planned_at
 counted world registration true site name arguments e =
-    ap (λ b. cond b (with_all (map (λ (a : Argument). a.value) arguments) (λ vs. kind_answer world registration.kind site name (map final_of vs))) (failed errors.Value)) e
+    ap (λ b. cond b (with_all (map (λ (a : Argument). a.value) arguments) (λ vs. kind_answer world registration.kind site name (map final_of vs))) (error_answer errors.Value)) e
 counted world registration false site name arguments e =
-    ap (λ b. cond b (with_all (map (λ (a : Argument). a.value) arguments) (λ vs. kind_answer world registration.kind site name (map final_of vs))) (failed errors.Value)) e
+    ap (λ b. cond b (with_all (map (λ (a : Argument). a.value) arguments) (λ vs. kind_answer world registration.kind site name (map final_of vs))) (error_answer errors.Value)) e
 
 added_planned : (world : World) (registered : Option Registration) (site : ℕ) (name : List ℕ) (arguments : List Argument) → added_answer world registered site name arguments ≡ planned_at world (plan_of_added registered (length arguments)) site name arguments
 unfolding planned_at
@@ -126,8 +126,8 @@ added_planned world (Some registration) site name arguments = counted world regi
 topic_planned : (world : World) (right : Bool) (site : ℕ) (name : List ℕ) (arguments : List Argument) → is_within (3, 18) (length arguments) ≡ right
     → rtd_answer world arguments ≡ planned_at world (cond right plans.Topic (plans.Fault errors.Value)) site name arguments
 unfolding planned_at
-topic_planned world true site name arguments e = ap (λ b. cond b (with_all (map (λ (a : Argument). a.value) arguments) (λ vs. topic_answer world (all_ok (map text_of vs)))) (failed errors.Value)) e
-topic_planned world false site name arguments e = ap (λ b. cond b (with_all (map (λ (a : Argument). a.value) arguments) (λ vs. topic_answer world (all_ok (map text_of vs)))) (failed errors.Value)) e
+topic_planned world true site name arguments e = ap (λ b. cond b (with_all (map (λ (a : Argument). a.value) arguments) (λ vs. topic_answer world (all_ok (map text_of vs)))) (error_answer errors.Value)) e
+topic_planned world false site name arguments e = ap (λ b. cond b (with_all (map (λ (a : Argument). a.value) arguments) (λ vs. topic_answer world (all_ok (map text_of vs)))) (error_answer errors.Value)) e
 
 -- by whether the name is RTD
 named_planned : (world : World) (rtd : Bool) (registered : Option Registration) (site before : ℕ) (name : List ℕ) (arguments : List Argument) → site ≡ before + cond rtd 0 1
@@ -150,7 +150,7 @@ call_planned answer job name ns before site e at =
     ∙ ap (λ count. planned_at world (plan_of job.functions name count) site name (arguments_at world ns site)) (argument_count world ns site)
 
 -- a fault
-pub plan_fault : (world : World) (plan : Plan) (kind : ErrorKind) (site : ℕ) (name : List ℕ) (arguments : List Argument) → plan ≡ plans.Fault kind → planned_at world plan site name arguments ≡ failed kind
+pub plan_fault : (world : World) (plan : Plan) (kind : ErrorKind) (site : ℕ) (name : List ℕ) (arguments : List Argument) → plan ≡ plans.Fault kind → planned_at world plan site name arguments ≡ error_answer kind
 unfolding planned_at
 plan_fault world plan kind site name arguments e = ap (λ p. planned_at world p site name arguments) e
 

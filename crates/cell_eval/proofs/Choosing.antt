@@ -15,7 +15,7 @@ use Rattle.cell_eval.proofs.AnswerLaws.{arguments_none, arguments_first, argumen
 use Rattle.cell_eval.proofs.Halting.{Halts-same, Halts-then}
 use Rattle.formula_parse.specs.declared.nodes.Node.{Node}
 use Rattle.formula_parse.specs.Tree.{site_count}
-use Rattle.workbook.specs.Evaluation.{World, Val, Argument, failed, then_with, branch, if_answer, unless_answer, choose_answer, chosen, chosen_at}
+use Rattle.workbook.specs.Evaluation.{World, Val, Argument, error_answer, then_with, branch, if_answer, unless_answer, choose_answer, choice_of, chosen_at}
 
 -- the first two arguments
 arguments_two : (world : World) (a b : Node) (rest : List Node) (before : ℕ)
@@ -37,11 +37,11 @@ if_tested world ns test met unmet before v r is value truth =
     ∙ ap (λ t. branch t (argument_at world met (before + site_count test)) (arguments_at world unmet (before + site_count test + site_count met))) truth
 
 -- with no argument, and with one
-pub if_none : (world : World) (ns : List Node) (before : ℕ) → ns ≡ [] → if_at world ns before ≡ failed errors.Value
+pub if_none : (world : World) (ns : List Node) (before : ℕ) → ns ≡ [] → if_at world ns before ≡ error_answer errors.Value
 unfolding if_at
 if_none world ns before is = ap (λ n. if_answer (arguments_at world n before)) is ∙ ap if_answer (arguments_none world before)
 
-pub if_one : (world : World) (ns : List Node) (test : Node) (before : ℕ) → ns ≡ test ∷ [] → if_at world ns before ≡ failed errors.Value
+pub if_one : (world : World) (ns : List Node) (test : Node) (before : ℕ) → ns ≡ test ∷ [] → if_at world ns before ≡ error_answer errors.Value
 unfolding if_at
 if_one world ns test before is =
     ap (λ n. if_answer (arguments_at world n before)) is
@@ -52,7 +52,7 @@ pub if_halts : (world : World) (ns : List Node) (test met : Node) (unmet : List 
 if_halts world ns test met unmet before halt is h = Halts-same _ _ halt (if_start world ns test met unmet before is) (Halts-then (answer_at world test before) halt _ h)
 
 -- the test is no boolean
-pub if_fault : (world : World) (ns : List Node) (test met : Node) (unmet : List Node) (before : ℕ) (v : Value) (kind : ErrorKind) → ns ≡ test ∷ met ∷ unmet → answer_at world test before ≡ Val v → truth_of v ≡ Err kind → if_at world ns before ≡ failed kind
+pub if_fault : (world : World) (ns : List Node) (test met : Node) (unmet : List Node) (before : ℕ) (v : Value) (kind : ErrorKind) → ns ≡ test ∷ met ∷ unmet → answer_at world test before ≡ Val v → truth_of v ≡ Err kind → if_at world ns before ≡ error_answer kind
 if_fault world ns test met unmet before v kind is value truth = if_tested world ns test met unmet before v (Err kind) is value truth
 
 -- the test is true
@@ -89,11 +89,11 @@ unless_tested world such ns first second rest before v b is value test =
     ∙ ap (λ a. then_with a (λ w. cond (such w) (answer_at world second (before + site_count first)) (Val w))) value
     ∙ ap (λ t. cond t (answer_at world second (before + site_count first)) (Val v)) test
 
-pub unless_none : (world : World) (such : Value → Bool) (ns : List Node) (before : ℕ) → ns ≡ [] → unless_at world such ns before ≡ failed errors.Value
+pub unless_none : (world : World) (such : Value → Bool) (ns : List Node) (before : ℕ) → ns ≡ [] → unless_at world such ns before ≡ error_answer errors.Value
 unfolding unless_at
 unless_none world such ns before is = ap (λ n. unless_answer such (arguments_at world n before)) is ∙ ap (unless_answer such) (arguments_none world before)
 
-pub unless_one : (world : World) (such : Value → Bool) (ns : List Node) (first : Node) (before : ℕ) → ns ≡ first ∷ [] → unless_at world such ns before ≡ failed errors.Value
+pub unless_one : (world : World) (such : Value → Bool) (ns : List Node) (first : Node) (before : ℕ) → ns ≡ first ∷ [] → unless_at world such ns before ≡ error_answer errors.Value
 unfolding unless_at
 unless_one world such ns first before is =
     ap (λ n. unless_answer such (arguments_at world n before)) is
@@ -111,16 +111,16 @@ unless_same world such ns first second rest before v is value test = unless_test
 
 -- ---- CHOOSE
 choose_start : (world : World) (ns : List Node) (index : Node) (options : List Node) (before : ℕ) → ns ≡ index ∷ options
-    → choose_at world ns before ≡ then_with (answer_at world index before) (λ v. chosen (number_of v) (arguments_at world options (before + site_count index)))
+    → choose_at world ns before ≡ then_with (answer_at world index before) (λ v. choice_of (number_of v) (arguments_at world options (before + site_count index)))
 unfolding choose_at
 choose_start world ns index options before is = ap (λ n. choose_answer (arguments_at world n before)) is ∙ ap choose_answer (arguments_first world index options before)
 
 choose_tested : (world : World) (ns : List Node) (index : Node) (options : List Node) (before : ℕ) (v : Value) → ns ≡ index ∷ options → answer_at world index before ≡ Val v
-    → choose_at world ns before ≡ chosen (number_of v) (arguments_at world options (before + site_count index))
+    → choose_at world ns before ≡ choice_of (number_of v) (arguments_at world options (before + site_count index))
 choose_tested world ns index options before v is value =
-    choose_start world ns index options before is ∙ ap (λ a. then_with a (λ w. chosen (number_of w) (arguments_at world options (before + site_count index)))) value
+    choose_start world ns index options before is ∙ ap (λ a. then_with a (λ w. choice_of (number_of w) (arguments_at world options (before + site_count index)))) value
 
-pub choose_none : (world : World) (ns : List Node) (before : ℕ) → ns ≡ [] → choose_at world ns before ≡ failed errors.Value
+pub choose_none : (world : World) (ns : List Node) (before : ℕ) → ns ≡ [] → choose_at world ns before ≡ error_answer errors.Value
 unfolding choose_at
 choose_none world ns before is = ap (λ n. choose_answer (arguments_at world n before)) is ∙ ap choose_answer (arguments_none world before)
 
@@ -141,7 +141,7 @@ arguments_get world (n ∷ ns) (suc i) d before lt =
 
 -- by the number, a place within the options, or a fault
 pub record Chosen (n : ℤ) (options : List Argument) (place : ℕ) : Type 0 where
-  pub at : chosen (Ok n) options ≡ chosen_at (slice_get options place)
+  pub at : choice_of (Ok n) options ≡ chosen_at (slice_get options place)
   pub within : place < length options
 
 positive : (n : ℤ) → int_lt (pos 0) n ≡ true → 0 < unsigned_abs n
@@ -163,34 +163,34 @@ chosen_by n true true options count same p e place is =
     let some = positive n p in
     let within = le_from_test (unsigned_abs n) count e in
     record {
-      at = ap (λ b. cond b (chosen_at (slice_get options (unsigned_abs n - 1))) (failed errors.Value)) p ∙ ap (λ i. chosen_at (slice_get options i)) here;
+      at = ap (λ b. cond b (chosen_at (slice_get options (unsigned_abs n - 1))) (error_answer errors.Value)) p ∙ ap (λ i. chosen_at (slice_get options i)) here;
       within = omega arith;
     }
 
 fault_by : (n : ℤ) (above inside : Bool) (options : List Argument) (count : ℕ) → count ≡ length options → int_lt (pos 0) n ≡ above → nat_le (unsigned_abs n) count ≡ inside → (kind : ErrorKind)
-    → cond (above && inside) (Ok (unsigned_abs n - 1)) (Err errors.Value) ≡ Err kind → chosen (Ok n) options ≡ failed kind
+    → cond (above && inside) (Ok (unsigned_abs n - 1)) (Err errors.Value) ≡ Err kind → choice_of (Ok n) options ≡ error_answer kind
 fault_by n false inside options count same p e kind is =
     let k : errors.Value ≡ kind = cc in
-    ap (λ b. cond b (chosen_at (slice_get options (unsigned_abs n - 1))) (failed errors.Value)) p ∙ ap failed k
+    ap (λ b. cond b (chosen_at (slice_get options (unsigned_abs n - 1))) (error_answer errors.Value)) p ∙ ap error_answer k
 fault_by n true true options count same p e kind is = absurd (cc)
 fault_by n true false options count same p e kind is =
     let k : errors.Value ≡ kind = cc in
     let past = past_from_test (unsigned_abs n) count e in
-    ap (λ b. cond b (chosen_at (slice_get options (unsigned_abs n - 1))) (failed errors.Value)) p
+    ap (λ b. cond b (chosen_at (slice_get options (unsigned_abs n - 1))) (error_answer errors.Value)) p
     ∙ ap chosen_at (slice_get_past options (unsigned_abs n - 1) (omega arith))
-    ∙ ap failed k
+    ∙ ap error_answer k
 
-fault_of : (r : Result ℤ ErrorKind) (options : List Argument) (count : ℕ) → count ≡ length options → (kind : ErrorKind) → place_of r count ≡ Err kind → chosen r options ≡ failed kind
+fault_of : (r : Result ℤ ErrorKind) (options : List Argument) (count : ℕ) → count ≡ length options → (kind : ErrorKind) → place_of r count ≡ Err kind → choice_of r options ≡ error_answer kind
 fault_of (Ok n) options count same kind is = fault_by n (int_lt (pos 0) n) (nat_le (unsigned_abs n) count) options count same refl refl kind is
-fault_of (Err k) options count same kind is = let e : k ≡ kind = cc in ap failed e
+fault_of (Err k) options count same kind is = let e : k ≡ kind = cc in ap error_answer e
 
-place_at : (r : Result ℤ ErrorKind) (options : List Argument) (count : ℕ) → count ≡ length options → (place : ℕ) → place_of r count ≡ Ok place → (chosen r options ≡ chosen_at (slice_get options place)) × (place < length options)
+place_at : (r : Result ℤ ErrorKind) (options : List Argument) (count : ℕ) → count ≡ length options → (place : ℕ) → place_of r count ≡ Ok place → (choice_of r options ≡ chosen_at (slice_get options place)) × (place < length options)
 place_at (Ok n) options count same place is = let h = chosen_by n (int_lt (pos 0) n) (nat_le (unsigned_abs n) count) options count same refl refl place is in (h.at, h.within)
 place_at (Err k) options count same place is = absurd (cc)
 
 -- the index is no place among the options
 pub choose_fault : (world : World) (ns : List Node) (index : Node) (options : List Node) (before : ℕ) (v : Value) (kind : ErrorKind) → ns ≡ index ∷ options → answer_at world index before ≡ Val v
-    → place_of (number_of v) (length options) ≡ Err kind → choose_at world ns before ≡ failed kind
+    → place_of (number_of v) (length options) ≡ Err kind → choose_at world ns before ≡ error_answer kind
 choose_fault world ns index options before v kind is value fault =
     choose_tested world ns index options before v is value
     ∙ fault_of (number_of v) (arguments_at world options (before + site_count index)) (length options) (sym (argument_count world options (before + site_count index))) kind fault

@@ -20,11 +20,11 @@ use Rattle.functions.specs.declared.arguments.Arg.{Arg}
 use Rattle.functions.specs.declared.arguments.Arg.TheVariants as inputs
 use Rattle.functions.specs.declared.functions.Function.{Function}
 use Rattle.functions.specs.declared.functions.Function.TheVariants as functions
-use Rattle.functions.specs.Applied.{applied}
+use Rattle.functions.specs.Applied.{result_of}
 use Rattle.functions.specs.Functions.{arity_of}
 use Rattle.functions.specs.Inputs.{all_ok}
 use Rattle.functions.specs.Kinds.{is_error, is_na}
-use Rattle.workbook.specs.Evaluation.{World, Answer, Val, Argument, failed, then_with, with_all, with_input, with_inputs, takes_area, area_input, branch, if_answer, unless_answer, chosen, chosen_at, choose_answer, function_answer, is_within, topic_answer, known_answer, rtd_answer, accepted_answer, kind_answer, added_answer, call_answer, LONGEST_STRING}
+use Rattle.workbook.specs.Evaluation.{World, Answer, Val, Argument, error_answer, then_with, with_all, with_input, with_inputs, takes_area, area_input, branch, if_answer, unless_answer, choice_of, chosen_at, choose_answer, function_answer, is_within, topic_answer, known_answer, rtd_answer, accepted_answer, kind_answer, added_answer, call_answer, LONGEST_STRING}
 
 -- an argument before the topics are known
 pub record Open : Type 0 where
@@ -40,7 +40,7 @@ abbrev pub knowing : World → Known → World
 knowing world known = record world { known = known }
 
 -- an error
-decides_failed : (kind : ErrorKind) → Decides (λ known. failed kind)
+decides_failed : (kind : ErrorKind) → Decides (λ known. error_answer kind)
 decides_failed kind = decides_value (values.Error kind)
 
 -- ---- IF, IFERROR, IFNA and CHOOSE
@@ -74,17 +74,17 @@ decides_chosen_at (o ∷ options) zero = decides_run o.decision
 decides_chosen_at (o ∷ options) (suc place) = decides_chosen_at options place
 
 -- the argument of CHOOSE that is taken
-decides_chosen : (n : Result ℤ ErrorKind) (options : List Open) → Decides (λ known. chosen n (map (closed known) options))
+decides_chosen : (n : Result ℤ ErrorKind) (options : List Open) → Decides (λ known. choice_of n (map (closed known) options))
 decides_chosen (Err kind) options = decides_failed kind
 decides_chosen (Ok n) options =
-    decides_cond (int_lt (pos 0) n) (λ known. chosen_at (slice_get (map (closed known) options) (unsigned_abs n - 1))) (λ known. failed errors.Value)
+    decides_cond (int_lt (pos 0) n) (λ known. chosen_at (slice_get (map (closed known) options) (unsigned_abs n - 1))) (λ known. error_answer errors.Value)
     (decides_chosen_at options (unsigned_abs n - 1)) (decides_failed errors.Value)
 
 -- CHOOSE
 decides_choose : (os : List Open) → Decides (λ known. choose_answer (map (closed known) os))
 decides_choose [] = decides_failed errors.Value
 decides_choose (index ∷ options) =
-    decides_then (λ known. run known index.decision) (λ known v. chosen (number_of v) (map (closed known) options)) (decides_run index.decision)
+    decides_then (λ known. run known index.decision) (λ known v. choice_of (number_of v) (map (closed known) options)) (decides_run index.decision)
     (λ v. decides_chosen (number_of v) options)
 
 -- ---- the other functions
@@ -109,8 +109,8 @@ decides_inputs world f place (o ∷ os) next h =
     (λ first. decides_inputs world f (suc place) os (λ known others. next known (first ∷ others)) (λ others. h (first ∷ others)))
 
 -- a function that takes all its arguments
-decides_applied : (world : World) (f : Function) (os : List Open) → Decides (λ known. with_inputs (knowing world known) f 0 (map (closed known) os) (λ args. Val (applied f args)))
-decides_applied world f os = decides_inputs world f 0 os (λ known args. Val (applied f args)) (λ args. decides_value (applied f args))
+decides_applied : (world : World) (f : Function) (os : List Open) → Decides (λ known. with_inputs (knowing world known) f 0 (map (closed known) os) (λ args. Val (result_of f args)))
+decides_applied world f os = decides_inputs world f 0 os (λ known args. Val (result_of f args)) (λ args. decides_value (result_of f args))
 
 -- a built-in function
 decides_function : (world : World) (f : Function) (os : List Open) → Decides (λ known. function_answer (knowing world known) f (map (closed known) os))
@@ -157,14 +157,14 @@ decides_topic world (Ok (name ∷ [])) = decides_failed errors.Value
 decides_topic world (Ok (name ∷ machine ∷ strings)) =
     let topic : Topic = record { server = name; strings = strings } in
     decides_cond (nat_lt 0 (length machine) || list_any (λ s. nat_lt LONGEST_STRING (length (chars s))) strings)
-    (λ known. failed errors.Value) (λ known. cond (is_name name) (known_answer (knowing world known) topic (known topic)) (failed errors.Na))
+    (λ known. error_answer errors.Value) (λ known. cond (is_name name) (known_answer (knowing world known) topic (known topic)) (error_answer errors.Na))
     (decides_failed errors.Value)
-    (decides_cond (is_name name) (λ known. known_answer (knowing world known) topic (known topic)) (λ known. failed errors.Na) (decides_known world topic) (decides_failed errors.Na))
+    (decides_cond (is_name name) (λ known. known_answer (knowing world known) topic (known topic)) (λ known. error_answer errors.Na) (decides_known world topic) (decides_failed errors.Na))
 
 -- RTD
 decides_rtd : (world : World) (os : List Open) → Decides (λ known. rtd_answer (knowing world known) (map (closed known) os))
 decides_rtd world os =
-    decides_counted (is_within (3, 18)) os (λ known. with_all (map (λ (a : Argument). a.value) (map (closed known) os)) (λ vs. topic_answer (knowing world known) (all_ok (map text_of vs)))) (failed errors.Value)
+    decides_counted (is_within (3, 18)) os (λ known. with_all (map (λ (a : Argument). a.value) (map (closed known) os)) (λ vs. topic_answer (knowing world known) (all_ok (map text_of vs)))) (error_answer errors.Value)
     (decides_values os (λ known vs. topic_answer (knowing world known) (all_ok (map text_of vs))) (λ vs. decides_topic world (all_ok (map text_of vs))))
     (decides_failed errors.Value)
 
@@ -183,14 +183,14 @@ decides_added : (world : World) (registered : Option Registration) (site : ℕ) 
 decides_added world None site name os = decides_failed errors.Name
 decides_added world (Some registration) site name os =
     decides_counted (λ count. nat_eq count registration.arguments) os
-    (λ known. with_all (map (λ (a : Argument). a.value) (map (closed known) os)) (λ vs. kind_answer (knowing world known) registration.kind site name (map final_of vs))) (failed errors.Value)
+    (λ known. with_all (map (λ (a : Argument). a.value) (map (closed known) os)) (λ vs. kind_answer (knowing world known) registration.kind site name (map final_of vs))) (error_answer errors.Value)
     (decides_values os (λ known vs. kind_answer (knowing world known) registration.kind site name (map final_of vs)) (λ vs. decides_kind world registration.kind site name (map final_of vs)))
     (decides_failed errors.Value)
 
 -- a call
 pub decides_call_of : (world : World) (f : Option Function) (site : ℕ) (name : List ℕ) (os : List Open) → Decides (λ known. call_answer (knowing world known) f site name (map (closed known) os))
 decides_call_of world (Some f) site name os =
-    decides_counted (is_within (arity_of f)) os (λ known. function_answer (knowing world known) f (map (closed known) os)) (failed errors.Value) (decides_function world f os) (decides_failed errors.Value)
+    decides_counted (is_within (arity_of f)) os (λ known. function_answer (knowing world known) f (map (closed known) os)) (error_answer errors.Value) (decides_function world f os) (decides_failed errors.Value)
 decides_call_of world None site name os =
     decides_cond (bytes_eq name (codes "RTD")) (λ known. rtd_answer (knowing world known) (map (closed known) os)) (λ known. added_answer (knowing world known) (world.registered name) site name (map (closed known) os))
     (decides_rtd world os) (decides_added world (world.registered name) site name os)

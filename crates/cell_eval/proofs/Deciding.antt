@@ -17,7 +17,7 @@ use Rattle.formula_parse.specs.declared.nodes.Node.TheVariants as nodes
 use Rattle.formula_parse.specs.declared.operators.Operator.{Operator}
 use Rattle.formula_parse.specs.Tree.{site_count}
 use Rattle.functions.specs.Functions.{function_named}
-use Rattle.workbook.specs.Evaluation.{World, Part, Val, then_with, with_all, final_answer, negated_times, chain_value, call_answer, own_site, part_of, part_step}
+use Rattle.workbook.specs.Evaluation.{World, Part, Val, then_with, with_all, final_answer, repeated_negation, chain_value, call_answer, own_site, part_of, part_step}
 
 module _ (world : World) where
   -- ---- the area of a part is the same, whichever topics are known
@@ -108,9 +108,9 @@ module _ (world : World) where
   -- a negation
   negation_decided : (count : ℕ) (operand : Node) → IsDecided operand → IsDecided (nodes.Negation count operand)
   negation_decided count operand h before =
-      decides_same (λ known. answer_at (knowing world known) (nodes.Negation count operand) before) (λ known. then_with (answer_at (knowing world known) operand before) (λ v. Val (negated_times count v)))
+      decides_same (λ known. answer_at (knowing world known) (nodes.Negation count operand) before) (λ known. then_with (answer_at (knowing world known) operand before) (λ v. Val (repeated_negation count v)))
       (λ known. answer_negation (knowing world known) count operand before)
-      (decides_then (λ known. answer_at (knowing world known) operand before) (λ known v. Val (negated_times count v)) (h before) (λ v. decides_value (negated_times count v)))
+      (decides_then (λ known. answer_at (knowing world known) operand before) (λ known v. Val (repeated_negation count v)) (h before) (λ v. decides_value (repeated_negation count v)))
 
   -- a chain
   chain_decided : (operands : List Node) (ops : List Operator) → All IsDecided operands → IsDecided (nodes.Chain operands ops)

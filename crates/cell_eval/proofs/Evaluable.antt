@@ -11,7 +11,7 @@ use Rattle.formula_parse.proofs.NodeLaws.{fold_call, fold_parentheses, fold_nega
 use Rattle.formula_parse.specs.declared.nodes.Node.{Node}
 use Rattle.formula_parse.specs.declared.nodes.Node.TheVariants as nodes
 use Rattle.formula_parse.specs.declared.operators.Operator.{Operator}
-use Rattle.formula_parse.specs.Tree.{areas_named, areas_step, chained, site_count}
+use Rattle.formula_parse.specs.Tree.{areas_named, areas_step, concat, site_count}
 
 -- ---- small areas
 abbrev IsSmall : Area → Type 0
@@ -27,12 +27,12 @@ all_back P [] ys h = h
 all_back P (x ∷ xs) ys h = all_back P xs ys (All-tail P x (xs ++ ys) h)
 
 -- the areas of several parts
-small_all : (home : ℕ) (ns : List Node) → All IsSmall (chained (map (λ n. areas_named n home) ns)) → All (NamesSmallAreas home) ns
+small_all : (home : ℕ) (ns : List Node) → All IsSmall (concat (map (λ n. areas_named n home) ns)) → All (NamesSmallAreas home) ns
 unfolding NamesSmallAreas
 small_all home [] h = All-nil (NamesSmallAreas home)
 small_all home (n ∷ ns) h =
-    All-cons (NamesSmallAreas home) n ns (all_front IsSmall (areas_named n home) (chained (map (λ m. areas_named m home) ns)) h)
-    (small_all home ns (all_back IsSmall (areas_named n home) (chained (map (λ m. areas_named m home) ns)) h))
+    All-cons (NamesSmallAreas home) n ns (all_front IsSmall (areas_named n home) (concat (map (λ m. areas_named m home) ns)) h)
+    (small_all home ns (all_back IsSmall (areas_named n home) (concat (map (λ m. areas_named m home) ns)) h))
 
 pub small_call : (home : ℕ) (node : Node) (name : Name) (arguments : List Node) → node ≡ nodes.Call name arguments → NamesSmallAreas home node → All (NamesSmallAreas home) arguments
 unfolding NamesSmallAreas

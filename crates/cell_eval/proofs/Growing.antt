@@ -7,11 +7,11 @@ use Rattle.cell_eval.specs.declared.jobs.Job.{Job}
 use Rattle.cell_eval.specs.declared.jobs.Outcome.{Outcome}
 use Rattle.cell_eval.specs.declared.jobs.Outcome.TheVariants as outcomes
 use Rattle.cell_eval.specs.Jobs.{topic_value, world_of, closed_world}
-use Rattle.cell_eval.specs.Outcomes.{told}
+use Rattle.cell_eval.specs.Outcomes.{outcome_answer}
 use Rattle.cell_eval.specs.Resuming.{AgreesWith, Foretells, answer_knowing}
 use Rattle.cell_eval.proofs.KnownTopics.{unknown_count, unknown_fewer, value_more}
 use Rattle.cell_eval.proofs.Reading.{topics_read, are_read}
-use Rattle.workbook.specs.Evaluation.{Answer, Val, Asks, Needs, evaluated}
+use Rattle.workbook.specs.Evaluation.{Answer, Val, Asks, Needs, answer_of}
 
 -- the value of each topic, where those that a job doesn't know have this value
 abbrev pub snapshot_of : Job → Value → Topic → Value
@@ -63,27 +63,27 @@ grown_agrees : (old job : Job) (value : Value) → HasGrown old value job → Ag
 grown_agrees old job value h topic = agrees_some (topic_value job.topics topic) (topic_value old.topics topic) value (h.alike topic)
 
 -- the world of a grown job
-grown_world : (answer : List ℕ → List Value → Value) (old job : Job) (value : Value) → HasGrown old value job → evaluated (world_of answer job) job.tree ≡ answer_knowing (world_of answer old) old.tree (topic_value job.topics)
+grown_world : (answer : List ℕ → List Value → Value) (old job : Job) (value : Value) → HasGrown old value job → answer_of (world_of answer job) job.tree ≡ answer_knowing (world_of answer old) old.tree (topic_value job.topics)
 unfolding world_of
-grown_world answer old job value h = ap (λ (j : Job). evaluated (world_of answer j) j.tree) (grown_kept old job value h)
+grown_world answer old job value h = ap (λ (j : Job). answer_of (world_of answer j) j.tree) (grown_kept old job value h)
 
 -- what a grown job's answer says of that of the closed world
-grown_foretells : (answer : List ℕ → List Value → Value) (old job : Job) (value : Value) (a : Answer) → HasGrown old value job → a ≡ evaluated (world_of answer job) job.tree
-    → Foretells (topic_value job.topics) (topics_read (world_of answer old) old.tree (snapshot_of old value)) (evaluated (closed_world answer old value) old.tree) a
+grown_foretells : (answer : List ℕ → List Value → Value) (old job : Job) (value : Value) (a : Answer) → HasGrown old value job → a ≡ answer_of (world_of answer job) job.tree
+    → Foretells (topic_value job.topics) (topics_read (world_of answer old) old.tree (snapshot_of old value)) (answer_of (closed_world answer old value) old.tree) a
 unfolding world_of closed_world
 grown_foretells answer old job value a h is =
-    subst (Foretells (topic_value job.topics) (topics_read (world_of answer old) old.tree (snapshot_of old value)) (evaluated (closed_world answer old value) old.tree))
+    subst (Foretells (topic_value job.topics) (topics_read (world_of answer old) old.tree (snapshot_of old value)) (answer_of (closed_world answer old value) old.tree))
     (sym (is ∙ grown_world answer old job value h))
     ((are_read (world_of answer old) old.tree (snapshot_of old value)).foretold (topic_value job.topics) (grown_agrees old job value h))
 
 -- a needed topic that is added leaves fewer
-pub left_fewer : (answer : List ℕ → List Value → Value) (old job new : Job) (value : Value) (topic : Topic) → HasGrown old value job → Needs topic ≡ evaluated (world_of answer job) job.tree
+pub left_fewer : (answer : List ℕ → List Value → Value) (old job new : Job) (value : Value) (topic : Topic) → HasGrown old value job → Needs topic ≡ answer_of (world_of answer job) job.tree
     → new ≡ record job { topics = job.topics ++ (topic, value) ∷ [] } → left_count answer old value new.topics < left_count answer old value job.topics
 unfolding left_count
 left_fewer answer old job new value topic h is more =
-    let told = grown_foretells answer old job value (Needs topic) h is in
+    let outcome_answer = grown_foretells answer old job value (Needs topic) h is in
     subst (λ topics. left_count answer old value topics < left_count answer old value job.topics) (sym (ap (λ (j : Job). j.topics) more))
-    (unknown_fewer job.topics topic value (topics_read (world_of answer old) old.tree (snapshot_of old value)) told.0 told.1)
+    (unknown_fewer job.topics topic value (topics_read (world_of answer old) old.tree (snapshot_of old value)) outcome_answer.0 outcome_answer.1)
 
 -- an answer that needs no topic is the full one
 foretold_end : (known : Topic → Option Value) (topics : List Topic) (full a : Answer) → ((topic : Topic) → a ≡ Needs topic → ⊥) → Foretells known topics full a → a ≡ full
@@ -92,14 +92,14 @@ foretold_end known topics full (Asks site name args) other h = sym h
 foretold_end known topics full (Needs topic) other h = absurd (other topic refl)
 
 -- an answer of a grown job that needs no topic is that of the closed world
-pub ends_closed : (answer : List ℕ → List Value → Value) (old job : Job) (value : Value) (a : Answer) → HasGrown old value job → a ≡ evaluated (world_of answer job) job.tree
-    → ((topic : Topic) → a ≡ Needs topic → ⊥) → a ≡ evaluated (closed_world answer old value) old.tree
+pub ends_closed : (answer : List ℕ → List Value → Value) (old job : Job) (value : Value) (a : Answer) → HasGrown old value job → a ≡ answer_of (world_of answer job) job.tree
+    → ((topic : Topic) → a ≡ Needs topic → ⊥) → a ≡ answer_of (closed_world answer old value) old.tree
 ends_closed answer old job value a h is other =
-    foretold_end (topic_value job.topics) (topics_read (world_of answer old) old.tree (snapshot_of old value)) (evaluated (closed_world answer old value) old.tree) a other
+    foretold_end (topic_value job.topics) (topics_read (world_of answer old) old.tree (snapshot_of old value)) (answer_of (closed_world answer old value) old.tree) a other
     (grown_foretells answer old job value a h is)
 
 -- an outcome that is no topic needs none
-pub told_other : (outcome : Outcome) → ((topic : Topic) → outcome ≡ outcomes.Topic topic → ⊥) → (topic : Topic) → told outcome ≡ Needs topic → ⊥
+pub told_other : (outcome : Outcome) → ((topic : Topic) → outcome ≡ outcomes.Topic topic → ⊥) → (topic : Topic) → outcome_answer outcome ≡ Needs topic → ⊥
 told_other (outcomes.Done v) other topic e = cc
 told_other (outcomes.Topic t) other topic e = other t refl
 told_other (outcomes.Call site name args) other topic e = cc

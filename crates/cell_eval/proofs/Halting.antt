@@ -5,7 +5,7 @@ use Rattle.cell_eval.specs.declared.halts.Halt.{Halt}
 use Rattle.cell_eval.specs.declared.halts.Halt.TheVariants as halts
 use Rattle.cell_eval.specs.Steps.{Halts, ComesTo, GiveAll, HaltAll}
 use Rattle.formula_parse.specs.declared.operators.Operator.{Operator}
-use Rattle.workbook.specs.Evaluation.{Answer, Val, Asks, Needs, then_with, with_all, final_answer, operated, operated_on, chain_value}
+use Rattle.workbook.specs.Evaluation.{Answer, Val, Asks, Needs, then_with, with_all, final_answer, operation_of, operations_of, chain_value}
 
 -- what halts, halts whatever was to follow
 pub Halts-then : (a : Answer) (halt : Halt) (next : Value → Answer) → Halts a halt → Halts (then_with a next) halt
@@ -77,13 +77,13 @@ ahead_last whole done h = record { goes_on = λ next. h.goes_on next ∙ ap next
 
 -- ---- a chain, combined as its values come
 -- the first value of a chain
-pub chain_first : (a : Answer) (v : Value) (rest : List Answer) (ops : List Operator) → a ≡ Val v → with_all (a ∷ rest) (λ vs. Val (chain_value ops vs)) ≡ with_all rest (λ vs. Val (operated_on v ops vs))
+pub chain_first : (a : Answer) (v : Value) (rest : List Answer) (ops : List Operator) → a ≡ Val v → with_all (a ∷ rest) (λ vs. Val (chain_value ops vs)) ≡ with_all rest (λ vs. Val (operations_of v ops vs))
 chain_first a v rest ops e = ap (λ x. with_all (x ∷ rest) (λ vs. Val (chain_value ops vs))) e
 
 -- a value more, behind an operator
-pub chain_next : (left v : Value) (a : Answer) (rest : List Answer) (op : Operator) (ops : List Operator) → a ≡ Val v → with_all (a ∷ rest) (λ vs. Val (operated_on left (op ∷ ops) vs)) ≡ with_all rest (λ vs. Val (operated_on (operated op left v) ops vs))
-chain_next left v a rest op ops e = ap (λ x. with_all (x ∷ rest) (λ vs. Val (operated_on left (op ∷ ops) vs))) e
+pub chain_next : (left v : Value) (a : Answer) (rest : List Answer) (op : Operator) (ops : List Operator) → a ≡ Val v → with_all (a ∷ rest) (λ vs. Val (operations_of left (op ∷ ops) vs)) ≡ with_all rest (λ vs. Val (operations_of (operation_of op left v) ops vs))
+chain_next left v a rest op ops e = ap (λ x. with_all (x ∷ rest) (λ vs. Val (operations_of left (op ∷ ops) vs))) e
 
 -- a value more, behind all operators
-pub chain_past : (left v : Value) (a : Answer) (rest : List Answer) → a ≡ Val v → with_all (a ∷ rest) (λ vs. Val (operated_on left [] vs)) ≡ with_all rest (λ vs. Val (operated_on left [] vs))
-chain_past left v a rest e = ap (λ x. with_all (x ∷ rest) (λ vs. Val (operated_on left [] vs))) e
+pub chain_past : (left v : Value) (a : Answer) (rest : List Answer) → a ≡ Val v → with_all (a ∷ rest) (λ vs. Val (operations_of left [] vs)) ≡ with_all rest (λ vs. Val (operations_of left [] vs))
+chain_past left v a rest e = ap (λ x. with_all (x ∷ rest) (λ vs. Val (operations_of left [] vs))) e

@@ -6,13 +6,13 @@ use Rattle.std.proofs.lemmas.List.{append_assoc, drop_more, take_more, map-appen
 use Rattle.cell_values.specs.declared.values.Value.{Value}
 use Rattle.cell_values.specs.declared.values.Value.TheVariants as values
 use Rattle.cell_values.specs.Value.{negate_of, final_of}
-use Rattle.workbook.specs.Evaluation.{Answer, negated_times}
+use Rattle.workbook.specs.Evaluation.{Answer, repeated_negation}
 
 -- a turn of a negation
-pub one_turn : (count turns : ℕ) (v : Value) → turns < count → negated_times (count - turns) v ≡ negated_times (count - (turns + 1)) (negate_of v)
+pub one_turn : (count turns : ℕ) (v : Value) → turns < count → repeated_negation (count - turns) v ≡ repeated_negation (count - (turns + 1)) (negate_of v)
 one_turn count turns v lt =
     let left : count - turns ≡ suc (count - (turns + 1)) = omega arith in
-    ap (λ n. negated_times n v) left
+    ap (λ n. repeated_negation n v) left
 
 -- values of which the first are finished
 abbrev pub finished_to : ℕ → List Value → List Value

@@ -7,13 +7,13 @@ use Rattle.formula_parse.proofs.NodeLaws.{fold_number, fold_text, fold_error, fo
 use Rattle.formula_parse.specs.declared.nodes.Node.{Node}
 use Rattle.formula_parse.specs.declared.nodes.Node.TheVariants as nodes
 use Rattle.formula_parse.specs.declared.operators.Operator.{Operator}
-use Rattle.formula_parse.specs.Tree.{calls_step, chained, is_built_in, site_count, sites_named}
+use Rattle.formula_parse.specs.Tree.{calls_step, concat, is_built_in, site_count, sites_named}
 use Rattle.workbook.specs.Evaluation.{World, Part, part_of, part_step, own_site, sites_in}
 
 -- the sites of several parts are the sum of theirs
-pub sites_chained : (ns : List Node) → length (chained (map sites_named ns)) ≡ sites_among ns
+pub sites_chained : (ns : List Node) → length (concat (map sites_named ns)) ≡ sites_among ns
 sites_chained [] = refl
-sites_chained (n ∷ ns) = length-append (sites_named n) (chained (map sites_named ns)) ∙ ap (λ k. site_count n + k) (sites_chained ns)
+sites_chained (n ∷ ns) = length-append (sites_named n) (concat (map sites_named ns)) ∙ ap (λ k. site_count n + k) (sites_chained ns)
 
 -- a name that isn't built in is a site of its own
 own_first : (known : Bool) (name : List ℕ) (calls : List (List ℕ)) → length (cond known calls (name ∷ calls)) ≡ cond known 0 1 + length calls
@@ -24,7 +24,7 @@ own_first false name calls = omega arith
 pub sites_call : (name : Name) (arguments : List Node) → site_count (nodes.Call name arguments) ≡ own_site name + sites_among arguments
 sites_call name arguments =
     ap length (fold_call (List (List ℕ)) calls_step name arguments)
-    ∙ own_first (is_built_in name) name (chained (map sites_named arguments))
+    ∙ own_first (is_built_in name) name (concat (map sites_named arguments))
     ∙ ap (λ k. own_site name + k) (sites_chained arguments)
 
 -- the sites of a chain

@@ -5,7 +5,7 @@ use Rattle.cell_refs.specs.declared.areas.Area.{Area}
 use Rattle.cell_values.specs.declared.values.Value.{Value}
 use Rattle.cell_eval.specs.declared.halts.Halt.{Halt}
 use Rattle.cell_eval.specs.declared.halts.Halt.TheVariants as halts
-use Rattle.cell_eval.specs.Steps.{Halts, IsTaken, HaltsTaken, AreTaken, HaltTaken, taken}
+use Rattle.cell_eval.specs.Steps.{Halts, IsTaken, HaltsTaken, AreTaken, HaltTaken, taken_area}
 use Rattle.cell_eval.proofs.Halting.{Halts-same, Halts-then}
 use Rattle.functions.specs.declared.arguments.Arg.{Arg}
 use Rattle.functions.specs.declared.arguments.Arg.TheVariants as inputs
@@ -14,24 +14,24 @@ use Rattle.workbook.specs.Evaluation.{World, Answer, Val, Asks, Needs, Argument,
 
 -- ---- one argument
 -- the values of an area
-takes_cells : (world : World) (takes : Bool) (area : Option Area) (value : Answer) (a : Area) (next : Arg → Answer) → taken takes area ≡ Some a → with_input world takes (record { area = area; value = value }) next ≡ next (area_input world a)
+takes_cells : (world : World) (takes : Bool) (area : Option Area) (value : Answer) (a : Area) (next : Arg → Answer) → taken_area takes area ≡ Some a → with_input world takes (record { area = area; value = value }) next ≡ next (area_input world a)
 takes_cells world true (Some b) value a next e = let same : b ≡ a = cc in ap (λ x. next (area_input world x)) same
 takes_cells world true None value a next e = absurd (cc)
 takes_cells world false area value a next e = absurd (cc)
 
 -- one value
-takes_value : (world : World) (takes : Bool) (area : Option Area) (value : Answer) (next : Arg → Answer) → taken takes area ≡ None → with_input world takes (record { area = area; value = value }) next ≡ then_with value (λ v. next (inputs.Direct v))
+takes_value : (world : World) (takes : Bool) (area : Option Area) (value : Answer) (next : Arg → Answer) → taken_area takes area ≡ None → with_input world takes (record { area = area; value = value }) next ≡ then_with value (λ v. next (inputs.Direct v))
 takes_value world true (Some b) value next e = absurd (cc)
 takes_value world true None value next e = refl
 takes_value world false area value next e = refl
 
-pub taken_cells : (world : World) (f : Function) (place : ℕ) (argument : Argument) (a : Area) (arg : Arg) → taken (takes_area f place) argument.area ≡ Some a → arg ≡ area_input world a → IsTaken world f place argument arg
+pub taken_cells : (world : World) (f : Function) (place : ℕ) (argument : Argument) (a : Area) (arg : Arg) → taken_area (takes_area f place) argument.area ≡ Some a → arg ≡ area_input world a → IsTaken world f place argument arg
 taken_cells world f place argument a arg e is = record { goes_on = λ next. takes_cells world (takes_area f place) argument.area argument.value a next e ∙ ap next (sym is) }
 
-pub taken_value : (world : World) (f : Function) (place : ℕ) (argument : Argument) (v : Value) → taken (takes_area f place) argument.area ≡ None → argument.value ≡ Val v → IsTaken world f place argument (inputs.Direct v)
+pub taken_value : (world : World) (f : Function) (place : ℕ) (argument : Argument) (v : Value) → taken_area (takes_area f place) argument.area ≡ None → argument.value ≡ Val v → IsTaken world f place argument (inputs.Direct v)
 taken_value world f place argument v e is = record { goes_on = λ next. takes_value world (takes_area f place) argument.area argument.value next e ∙ ap (λ a. then_with a (λ w. next (inputs.Direct w))) is }
 
-pub taken_halts : (world : World) (f : Function) (place : ℕ) (argument : Argument) (halt : Halt) → taken (takes_area f place) argument.area ≡ None → Halts argument.value halt → HaltsTaken world f place argument halt
+pub taken_halts : (world : World) (f : Function) (place : ℕ) (argument : Argument) (halt : Halt) → taken_area (takes_area f place) argument.area ≡ None → Halts argument.value halt → HaltsTaken world f place argument halt
 taken_halts world f place argument halt e h = record {
   stays = λ next. Halts-same _ _ halt (takes_value world (takes_area f place) argument.area argument.value next e) (Halts-then argument.value halt (λ v. next (inputs.Direct v)) h);
 }

@@ -9,7 +9,7 @@ use Rattle.cell_values.specs.declared.values.Value.{Value}
 use Rattle.cell_values.specs.Name.{is_name}
 use Rattle.cell_eval.proofs.OperationLaws.{third}
 use Rattle.functions.specs.Inputs.{all_ok, with_first}
-use Rattle.workbook.specs.Evaluation.{World, failed, known_answer, topic_answer, LONGEST_STRING}
+use Rattle.workbook.specs.Evaluation.{World, error_answer, known_answer, topic_answer, LONGEST_STRING}
 
 -- a name, no machine and short strings: the topic's value
 pub named : (world : World) (name machine : List ℕ) (strings : List (List ℕ)) (server : List ℕ) (texts : List (List ℕ)) (o : Option Value)
@@ -18,7 +18,7 @@ pub named : (world : World) (name machine : List ℕ) (strings : List (List ℕ)
     → topic_answer world (Ok (name ∷ machine ∷ strings)) ≡ known_answer world (record { server = server; strings = texts }) o
 named world name machine strings server texts o none short valid same alike known =
     let topic : Topic = record { server = server; strings = texts } in
-    third _ _ _ (failed errors.Value) (known_answer world (record { server = name; strings = strings }) (world.known (record { server = name; strings = strings }))) (failed errors.Na) none short valid
+    third _ _ _ (error_answer errors.Value) (known_answer world (record { server = name; strings = strings }) (world.known (record { server = name; strings = strings }))) (error_answer errors.Na) none short valid
     ∙ ap₂ (λ (s : List ℕ) (ts : List (List ℕ)). known_answer world (record { server = s; strings = ts }) (world.known (record { server = s; strings = ts }))) (sym same) (sym alike)
     ∙ ap (known_answer world topic) known
 

@@ -10,7 +10,7 @@ use Rattle.cell_eval.specs.declared.plans.Plan.{Plan}
 use Rattle.cell_eval.specs.declared.plans.Plan.TheVariants as plans
 use Rattle.cell_eval.specs.Jobs.{registration_of}
 use Rattle.functions.specs.Inputs.{all_ok}
-use Rattle.workbook.specs.Evaluation.{World, Answer, failed, is_within, topic_answer, kind_answer}
+use Rattle.workbook.specs.Evaluation.{World, Answer, error_answer, is_within, topic_answer, kind_answer}
 
 -- of a name that is neither a function's nor RTD, by what it was registered with
 abbrev pub plan_of_added : Option Registration → ℕ → Plan
@@ -25,6 +25,6 @@ plan_of functions name count =
 
 -- what a plan makes of the arguments' values
 abbrev pub planned_value : World → Plan → ℕ → List ℕ → List Value → Answer
-planned_value world (plans.Fault kind) site name vs = failed kind
+planned_value world (plans.Fault kind) site name vs = error_answer kind
 planned_value world plans.Topic site name vs = topic_answer world (all_ok (map text_of vs))
 planned_value world (plans.Function kind) site name vs = kind_answer world kind site name (map final_of vs)

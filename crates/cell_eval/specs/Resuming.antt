@@ -5,7 +5,7 @@ use Rattle.cell_values.specs.declared.topics.Topic.{Topic}
 use Rattle.cell_values.specs.declared.values.Value.{Value}
 use Rattle.cell_eval.specs.Jobs.{same_topic}
 use Rattle.formula_parse.specs.declared.nodes.Node.{Node}
-use Rattle.workbook.specs.Evaluation.{World, Answer, Val, Asks, Needs, evaluated}
+use Rattle.workbook.specs.Evaluation.{World, Answer, Val, Asks, Needs, answer_of}
 
 -- each topic that is known has its value of a snapshot
 abbrev pub AgreesWith : (Topic → Value) → (Topic → Option Value) → Type 0
@@ -17,7 +17,7 @@ is_listed topics topic = list_any (same_topic topic) topics
 
 -- the answer of a formula where these topics are known
 abbrev pub answer_knowing : World → Node → (Topic → Option Value) → Answer
-answer_knowing world tree known = evaluated (record world { known = known }) tree
+answer_knowing world tree known = answer_of (record world { known = known }) tree
 
 -- the answer of a formula where each topic has its value of a snapshot
 abbrev pub full_answer : World → Node → (Topic → Value) → Answer

@@ -14,7 +14,7 @@ use Rattle.formula_parse.specs.Tree.{areas_named, site_count}
 use Rattle.functions.specs.declared.arguments.Arg.{Arg}
 use Rattle.functions.specs.declared.functions.Function.{Function}
 use Rattle.functions.specs.Functions.{function_named}
-use Rattle.workbook.specs.Evaluation.{World, Answer, Val, Asks, Needs, Argument, part_of, placed, answers_of, with_all, with_input, with_inputs, takes_area, chain_value, operated, call_answer, if_answer, unless_answer, choose_answer, own_site}
+use Rattle.workbook.specs.Evaluation.{World, Answer, Val, Asks, Needs, Argument, part_of, arguments_of, answers_of, with_all, with_input, with_inputs, takes_area, chain_value, operation_of, call_answer, if_answer, unless_answer, choose_answer, own_site}
 
 -- the answer of a part of a tree behind so many sites
 unfoldable pub answer_at : World → Node → ℕ → Answer
@@ -26,16 +26,16 @@ answers_at world nodes before = answers_of before (map (part_of world) nodes)
 
 -- the arguments that parts are behind so many sites
 unfoldable pub arguments_at : World → List Node → ℕ → List Argument
-arguments_at world nodes before = placed before (map (part_of world) nodes)
+arguments_at world nodes before = arguments_of before (map (part_of world) nodes)
 
 -- the area that a part of a tree refers to, where it is a reference or an area and nothing else
 unfoldable pub area_at : World → Node → Option Area
 area_at world node = (part_of world node).area
 
 -- the area that a function takes, if it takes one
-abbrev pub taken : Bool → Option Area → Option Area
-taken true area = area
-taken false area = None
+abbrev pub taken_area : Bool → Option Area → Option Area
+taken_area true area = area
+taken_area false area = None
 
 -- a part as an argument behind so many sites
 abbrev pub argument_at : World → Node → ℕ → Argument
@@ -70,8 +70,8 @@ place_of (Err kind) count = Err kind
 place_of (Ok n) count = if int_lt (pos 0) n && nat_le (unsigned_abs n) count then Ok (unsigned_abs n - 1) else Err errors.Value
 
 -- what stands left in a chain combined with the operand behind the operator at a place
-abbrev pub combined : List Operator → ℕ → Value → Value → Value
-combined ops place left right = option_map_or (λ op. operated op left right) (slice_get ops place) left
+abbrev pub combination_of : List Operator → ℕ → Value → Value → Value
+combination_of ops place left right = option_map_or (λ op. operation_of op left right) (slice_get ops place) left
 
 -- how many sites stand in parts
 abbrev pub sites_among : List Node → ℕ

@@ -9,7 +9,7 @@ ghost use Rattle.functions.specs.Inputs.{IsInput};
 ghost use Rattle.formula_parse.specs.Tree.{site_count};
 ghost use Rattle.cell_eval.specs.Jobs.{input_of};
 ghost use Rattle.cell_eval.specs.Inputs.{from_cell, head_value};
-ghost use Rattle.cell_eval.specs.Steps.{NamesSmallAreas, area_at, taken};
+ghost use Rattle.cell_eval.specs.Steps.{NamesSmallAreas, area_at, taken_area};
 
 use super::operations::takes_area;
 use cell_refs::{Area, Cell};
@@ -22,8 +22,10 @@ use std::alloc::Global;
 fn area_in(node: &Node, home: u8) -> Option<Area>
     ensures area { (world : World) → world.home ≡ home → result ≡ area_at world node.now }
     ensures sites { OnSome result (site_count node.now ≡ 0) }
-    ensures small { NamesSmallAreas home node.now → MatchOption result ⊤ (λ area. size_of area ≤ 65536) }
-    ensures formed { MatchOption result ⊤ (λ area. (area.top ≤ area.bottom) × (area.left ≤ area.right)) }
+    ensures small { NamesSmallAreas home node.now
+        → MatchOption result ⊤ (λ area. size_of area ≤ 65536) }
+    ensures formed { MatchOption result ⊤ (λ area. (area.top ≤ area.bottom)
+        × (area.left ≤ area.right)) }
 {
     match node {
         Node::Reference(reference) => Some(Area::of(reference, reference, home)),
@@ -34,10 +36,13 @@ fn area_in(node: &Node, home: u8) -> Option<Area>
 
 /// The area whose values a function takes for its argument at a place.
 pub fn area_taken(function: Function, place: usize, node: &Node, home: u8) -> Option<Area>
-    ensures area { (world : World) → world.home ≡ home → result ≡ taken (takes_area function place) (area_at world node.now) }
+    ensures area { (world : World) → world.home ≡ home
+        → result ≡ taken_area (takes_area function place) (area_at world node.now) }
     ensures sites { OnSome result (site_count node.now ≡ 0) }
-    ensures small { NamesSmallAreas home node.now → MatchOption result ⊤ (λ area. size_of area ≤ 65536) }
-    ensures formed { MatchOption result ⊤ (λ area. (area.top ≤ area.bottom) × (area.left ≤ area.right)) }
+    ensures small { NamesSmallAreas home node.now
+        → MatchOption result ⊤ (λ area. size_of area ≤ 65536) }
+    ensures formed { MatchOption result ⊤ (λ area. (area.top ≤ area.bottom)
+        × (area.left ≤ area.right)) }
 {
     if takes_area(function, place) {
         area_in(node, home)
@@ -120,7 +125,8 @@ pub fn area_argument(alloc: Global, inputs: &[(Cell, Value)], area: Area) -> Res
     requires ordered { IsStrictlySortedBy cell_cmp (keys_of inputs.now) }
     requires small { size_of area ≤ 65536 }
     requires formed { (area.top ≤ area.bottom) × (area.left ≤ area.right) }
-    ensures argument { (world : World) → world.input ≡ input_of inputs.now → IfOk result (λ argument. argument ≡ area_input world area) }
+    ensures argument { (world : World) → world.input ≡ input_of inputs.now
+        → IfOk result (λ argument. argument ≡ area_input world area) }
     ensures form { IfOk result IsInput }
 {
     let values = area_values(alloc, inputs, area)?;

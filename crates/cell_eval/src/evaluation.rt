@@ -78,7 +78,8 @@ fn chain<F: AddIns>(
 ) -> Result<Value, Halt>
     requires small { All (NamesSmallAreas job.now.cell.sheet) operands.now }
     requires fits { sites.old + sites_among operands.now ≤ 65535 }
-    ensures value { ComesTo (chain_at (world_of F.answer job.now) operands.now operators.now sites.old) result }
+    ensures value { ComesTo
+        (chain_at (world_of F.answer job.now) operands.now operators.now sites.old) result }
     ensures sites { OnOk result (sites.new ≡ sites.old + sites_among operands.now) }
 {
     let Some((first, others)) = operands.split_first() else {
@@ -103,7 +104,8 @@ fn all_values<F: AddIns>(
 ) -> Result<Vec<Value>, Halt>
     requires small { All (NamesSmallAreas job.now.cell.sheet) nodes.now }
     requires fits { sites.old + sites_among nodes.now ≤ 65535 }
-    ensures values { MatchResult result (λ vs. GiveAll (answers_at (world_of F.answer job.now) nodes.now sites.old) vs.items)
+    ensures values { MatchResult result (λ vs. GiveAll
+        (answers_at (world_of F.answer job.now) nodes.now sites.old) vs.items)
         (HaltAll (answers_at (world_of F.answer job.now) nodes.now sites.old)) }
     ensures sites { OnOk result (sites.new ≡ sites.old + sites_among nodes.now) }
 {
@@ -127,8 +129,10 @@ fn call<F: AddIns>(
 ) -> Result<Value, Halt>
     requires small { All (NamesSmallAreas job.now.cell.sheet) arguments.now }
     requires fits { sites.old + (own_site name.now + sites_among arguments.now) ≤ 65535 }
-    ensures value { ComesTo (call_at (world_of F.answer job.now) name.now arguments.now sites.old) result }
-    ensures sites { OnOk result (sites.new ≡ sites.old + (own_site name.now + sites_among arguments.now)) }
+    ensures value { ComesTo
+        (call_at (world_of F.answer job.now) name.now arguments.now sites.old) result }
+    ensures sites { OnOk result (sites.new ≡ sites.old +
+        (own_site name.now + sites_among arguments.now)) }
 {
     if let Some(function) = Function::of(name.as_str()) {
         return built_in(alloc, job, addins, function, arguments, sites);
@@ -161,7 +165,8 @@ fn built_in<F: AddIns>(
 ) -> Result<Value, Halt>
     requires small { All (NamesSmallAreas job.now.cell.sheet) arguments.now }
     requires fits { sites.old + sites_among arguments.now ≤ 65535 }
-    ensures value { ComesTo (built_in_at (world_of F.answer job.now) function arguments.now sites.old) result }
+    ensures value { ComesTo
+        (built_in_at (world_of F.answer job.now) function arguments.now sites.old) result }
     ensures sites { OnOk result (sites.new ≡ sites.old + sites_among arguments.now) }
 {
     if !takes_count(function, arguments.len()) {
@@ -193,9 +198,12 @@ fn inputs<F: AddIns>(
     requires small { All (NamesSmallAreas job.now.cell.sheet) nodes.now }
     requires fits { sites.old + sites_among nodes.now ≤ 65535 }
     ensures args { MatchResult result
-        (λ args. AreTaken (world_of F.answer job.now) function 0 (arguments_at (world_of F.answer job.now) nodes.now sites.old) args.items)
-        (HaltTaken (world_of F.answer job.now) function 0 (arguments_at (world_of F.answer job.now) nodes.now sites.old)) }
-    ensures form { IfOk result (λ args. All IsInput args.items × (length args.items ≡ length nodes.now)) }
+        (λ args. AreTaken (world_of F.answer job.now) function 0
+        (arguments_at (world_of F.answer job.now) nodes.now sites.old) args.items)
+        (HaltTaken (world_of F.answer job.now) function 0
+        (arguments_at (world_of F.answer job.now) nodes.now sites.old)) }
+    ensures form { IfOk result (λ args. All IsInput args.items
+        × (length args.items ≡ length nodes.now)) }
     ensures sites { OnOk result (sites.new ≡ sites.old + sites_among nodes.now) }
 {
     let mut args = Vec::new(alloc);
@@ -220,8 +228,10 @@ fn input<F: AddIns>(
     requires small { NamesSmallAreas job.now.cell.sheet node.now }
     requires fits { sites.old + site_count node.now ≤ 65535 }
     ensures arg { MatchResult result
-        (IsTaken (world_of F.answer job.now) function place (argument_at (world_of F.answer job.now) node.now sites.old))
-        (HaltsTaken (world_of F.answer job.now) function place (argument_at (world_of F.answer job.now) node.now sites.old)) }
+        (IsTaken (world_of F.answer job.now) function place
+        (argument_at (world_of F.answer job.now) node.now sites.old))
+        (HaltsTaken (world_of F.answer job.now) function place
+        (argument_at (world_of F.answer job.now) node.now sites.old)) }
     ensures form { IfOk result IsInput }
     ensures sites { OnOk result (sites.new ≡ sites.old + site_count node.now) }
 {
@@ -290,7 +300,8 @@ fn unless<F: AddIns>(
 ) -> Result<Value, Halt>
     requires small { All (NamesSmallAreas job.now.cell.sheet) arguments.now }
     requires fits { sites.old + sites_among arguments.now ≤ 65535 }
-    ensures value { ComesTo (unless_at (world_of F.answer job.now) (is_such errors) arguments.now sites.old) result }
+    ensures value { ComesTo (unless_at (world_of F.answer job.now)
+        (is_such errors) arguments.now sites.old) result }
     ensures sites { OnOk result (sites.new ≡ sites.old + sites_among arguments.now) }
 {
     let Some((first, others)) = arguments.split_first() else {

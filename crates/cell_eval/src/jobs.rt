@@ -82,7 +82,8 @@ impl Topics {
 
     /// Adds a topic behind the others.
     pub fn push(&mut self, topic: Topic, value: Value) -> Result<(), Memory>
-        ensures { MatchResult result (λ done. self.new ≡ self.old ++ (topic, value) ∷ []) (λ memory. self.new ≡ self.old) }
+        ensures { MatchResult result (λ done. self.new ≡ self.old
+            ++ (topic, value) ∷ []) (λ memory. self.new ≡ self.old) }
     {
         match self.entries.push((topic, value)) {
             Ok(()) => Ok(()),

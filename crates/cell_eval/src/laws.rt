@@ -10,5 +10,6 @@ ghost use Rattle.workbook.specs.Evaluation.{World};
 /// Of topics that each have a value, a formula reads finitely many: whichever topics are known by these values, it
 /// needs no other, and where it comes to a value or a call, it comes to the same with every topic known.
 pub fn topics_read()
-    ensures { (world : World) (tree : Node) (snapshot : OneTopic → OneValue) → (topics : List OneTopic) × AreRead world tree snapshot topics }
+    ensures { (world : World) (tree : Node) (snapshot : OneTopic → OneValue)
+        → (topics : List OneTopic) × AreRead world tree snapshot topics }
 {}

@@ -1,8 +1,8 @@
 ghost use Rattle.std.specs.Prelude.{◌≡◌, IfOk};
 ghost use Rattle.cell_values.specs.Value.{final_of};
 ghost use Rattle.cell_eval.specs.Errors.{is_such};
-ghost use Rattle.cell_eval.specs.Steps.{combined, place_of};
-ghost use Rattle.workbook.specs.Evaluation.{is_within, operated, negated_times, takes_area};
+ghost use Rattle.cell_eval.specs.Steps.{combination_of, place_of};
+ghost use Rattle.workbook.specs.Evaluation.{is_within, operation_of, repeated_negation, takes_area};
 ghost use Rattle.functions.specs.Functions.{arity_of};
 
 use cell_values::{ErrorKind, Memory, Value, add, compare, div, join, mul, negate, sub};
@@ -12,7 +12,7 @@ use std::alloc::Global;
 
 /// An operator between two values.
 fn operate(alloc: Global, operator: Operator, left: &Value, right: &Value) -> Result<Value, Memory>
-    ensures { IfOk result (λ value. value ≡ operated operator left.now right.now) }
+    ensures { IfOk result (λ value. value ≡ operation_of operator left.now right.now) }
 {
     match operator {
         Operator::Compare(op) => Ok(compare(op, left, right)),
@@ -33,7 +33,7 @@ pub fn combined(
     left: Value,
     right: &Value,
 ) -> Result<Value, Memory>
-    ensures { IfOk result (λ value. value ≡ combined operators.now place left right.now) }
+    ensures { IfOk result (λ value. value ≡ combination_of operators.now place left right.now) }
 {
     match operators.get(place) {
         Some(operator) => operate(alloc, *operator, &left, right),
@@ -43,7 +43,7 @@ pub fn combined(
 
 /// A value negated so many times.
 pub fn negated(count: u32, value: Value) -> Value
-    ensures { result ≡ negated_times count value }
+    ensures { result ≡ repeated_negation count value }
 {
     let mut value = value;
     for _ in 0..count {

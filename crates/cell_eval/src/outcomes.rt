@@ -1,7 +1,7 @@
 ghost use Rattle.std.specs.Prelude.{◌≡◌, IfOk};
-ghost use Rattle.workbook.specs.Evaluation.{evaluated};
+ghost use Rattle.workbook.specs.Evaluation.{answer_of};
 ghost use Rattle.cell_eval.specs.Jobs.{world_of};
-ghost use Rattle.cell_eval.specs.Outcomes.{told};
+ghost use Rattle.cell_eval.specs.Outcomes.{outcome_answer};
 
 use super::evaluation::part;
 use super::halts::Halt;
@@ -13,7 +13,8 @@ use std::alloc::Global;
 
 /// Evaluates a formula as far as it comes with what the job knows.
 pub fn eval<F: AddIns>(alloc: Global, job: &Job, addins: &F) -> Result<Outcome, Memory>
-    ensures { IfOk result (λ outcome. told outcome ≡ evaluated (world_of F.answer job.now) job.now.tree) }
+    ensures { IfOk result (λ outcome. outcome_answer outcome
+        ≡ answer_of (world_of F.answer job.now) job.now.tree) }
 {
     let mut sites = 0;
     match part(alloc, job, addins, job.tree.root(), &mut sites) {

@@ -59,7 +59,8 @@ pub fn planned_value<F: AddIns>(
     name: &Name,
     values: Vec<Value>,
 ) -> Result<Value, Halt>
-    ensures { ComesTo (planned_value (world_of F.answer job.now) plan site name.now values.items) result }
+    ensures { ComesTo
+        (planned_value (world_of F.answer job.now) plan site name.now values.items) result }
 {
     match plan {
         Plan::Fault(kind) => Ok(Value::Error(kind)),
@@ -80,7 +81,8 @@ fn function_answer<F: AddIns>(
     name: &Name,
     values: Vec<Value>,
 ) -> Result<Value, Halt>
-    ensures { ComesTo (kind_answer (world_of F.answer job.now) kind site name.now values.items) result }
+    ensures { ComesTo
+        (kind_answer (world_of F.answer job.now) kind site name.now values.items) result }
 {
     match kind {
         Kind::Plain => Ok(addins.call(alloc, name, values.as_slice())?),

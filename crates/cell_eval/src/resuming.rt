@@ -1,9 +1,9 @@
 ghost use Rattle.std.specs.Prelude.{◌≡◌, ◌≢◌, ◌++◌, List, map, IfOk};
 ghost use Rattle.cell_values.specs.declared.topics.Topic.{Topic as OneTopic};
 ghost use Rattle.cell_eval.specs.declared.jobs.Outcome.TheVariants as outcomes;
-ghost use Rattle.workbook.specs.Evaluation.{evaluated};
+ghost use Rattle.workbook.specs.Evaluation.{answer_of};
 ghost use Rattle.cell_eval.specs.Jobs.{closed_world, world_of};
-ghost use Rattle.cell_eval.specs.Outcomes.{told};
+ghost use Rattle.cell_eval.specs.Outcomes.{outcome_answer};
 
 use super::jobs::{Job, Outcome};
 use super::outcomes::eval;
@@ -19,10 +19,13 @@ pub fn eval_closed<F: AddIns>(
     addins: &F,
     value: &Value,
 ) -> Result<Outcome, Memory>
-    ensures closed { IfOk result (λ outcome. told outcome ≡ evaluated (closed_world F.answer job.old value.now) job.old.tree) }
+    ensures closed { IfOk result (λ outcome. outcome_answer outcome
+        ≡ answer_of (closed_world F.answer job.old value.now) job.old.tree) }
     ensures ended { IfOk result (λ outcome. (topic : OneTopic) → outcome ≢ outcomes.Topic topic) }
-    ensures known { IfOk result (λ outcome. told outcome ≡ evaluated (world_of F.answer job.new) job.new.tree) }
-    ensures grown { (added : List OneTopic) × (job.new ≡ record job.old { topics = job.old.topics ++ map (λ topic. (topic, value.now)) added }) }
+    ensures known { IfOk result (λ outcome. outcome_answer outcome
+        ≡ answer_of (world_of F.answer job.new) job.new.tree) }
+    ensures grown { (added : List OneTopic) × (job.new
+        ≡ record job.old { topics = job.old.topics ++ map (λ topic. (topic, value.now)) added }) }
 {
     'topics: loop {
         match eval(alloc, job, addins)? {

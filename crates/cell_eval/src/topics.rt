@@ -19,7 +19,8 @@ const LONGEST: usize = 255;
 
 /// The texts that values count as, or the first error.
 fn texts_of(alloc: Global, values: &[Value]) -> Result<Result<Vec<Text>, ErrorKind>, Memory>
-    ensures { IfOk result (λ texts. MatchResult texts (λ texts. all_ok (map text_of values.now) ≡ Ok texts.items)
+    ensures { IfOk result (λ texts. MatchResult texts (λ texts. all_ok (map text_of values.now)
+        ≡ Ok texts.items)
         (λ kind. all_ok (map text_of values.now) ≡ Err kind)) }
 {
     let mut texts = Vec::new(alloc);
@@ -59,7 +60,8 @@ fn named_answer(
     strings: Vec<Text>,
 ) -> Result<Value, Halt>
     ensures { (answer : List ℕ → List OneValue → OneValue)
-        → ComesTo (topic_answer (world_of answer job.now) (Ok (name.now ∷ machine.now ∷ strings.items))) result }
+        → ComesTo (topic_answer (world_of answer job.now)
+        (Ok (name.now ∷ machine.now ∷ strings.items))) result }
 {
     if !machine.as_str().is_empty() || is_any_too_long(strings.as_slice()) {
         return Ok(Value::Error(ErrorKind::Value));
@@ -82,7 +84,8 @@ fn named_answer(
 /// RTD by the values of its arguments.
 pub fn topic_answer(alloc: Global, job: &Job, values: &[Value]) -> Result<Value, Halt>
     ensures { (answer : List ℕ → List OneValue → OneValue)
-        → ComesTo (topic_answer (world_of answer job.now) (all_ok (map text_of values.now))) result }
+        → ComesTo (topic_answer (world_of answer job.now)
+        (all_ok (map text_of values.now))) result }
 {
     let Some((name, others)) = values.split_first() else {
         return Ok(Value::Error(ErrorKind::Value));

@@ -22,7 +22,8 @@ impl Area {
     /// of the second one isn't used.
     pub fn of(a: &RefText, b: &RefText, home: u8) -> Area
         ensures exact { result ≡ area_of a.now b.now home }
-        ensures inside { IsReference a.now → IsReference b.now → (1 ≤ home) × (home ≤ 64) → IsArea result }
+        ensures inside { IsReference a.now → IsReference b.now → (1 ≤ home) × (home ≤ 64)
+            → IsArea result }
     {
         Area {
             sheet: a.sheet.unwrap_or(home),
@@ -92,9 +93,11 @@ impl Model for Cells {
 
     ghost Value = { List Cell };
 
-    ghost view = { λ c. if c.ended then [] else cells_from c.sheet c.left c.right c.bottom c.row c.col };
+    ghost view = { λ c. if c.ended then []
+        else cells_from c.sheet c.left c.right c.bottom c.row c.col };
 
-    ghost invariant = { λ c. c.ended ≡ false → (c.row ≤ c.bottom) × (c.col ≤ c.right) × (c.left ≤ c.right) };
+    ghost invariant = { λ c. c.ended ≡ false → (c.row ≤ c.bottom) × (c.col ≤ c.right)
+        × (c.left ≤ c.right) };
 }
 
 impl Iterator for Cells {

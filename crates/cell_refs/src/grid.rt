@@ -70,7 +70,8 @@ impl Cell {
     /// The cell at this place; None exactly outside the grid.
     pub fn new(sheet: u8, row: u32, col: u16) -> Option<Cell>
         ensures inside { IsSome result ↔ IsCell (record { sheet = sheet; row = row; col = col }) }
-        ensures cell { IfSome result (λ cell. cell ≡ record { sheet = sheet; row = row; col = col }) }
+        ensures cell { IfSome result (λ cell. cell
+            ≡ record { sheet = sheet; row = row; col = col }) }
     {
         let inside = 1 <= sheet
             && sheet <= SHEETS

@@ -13,16 +13,21 @@ ghost use Rattle.cell_refs.specs.Written.{StandsAt, cell_text, plain_reference, 
 
 /// Reading gives exactly the reference that stands at the front, so at most one does.
 pub fn reading_gives_what_stands()
-    ensures stands { (text : List ℕ) (r : RefText) (n : ℕ) → reference_at text ≡ Some (r, n) → StandsAt text r n }
-    ensures read { (text : List ℕ) (r : RefText) (n : ℕ) → StandsAt text r n → reference_at text ≡ Some (r, n) }
+    ensures stands { (text : List ℕ) (r : RefText) (n : ℕ) → reference_at text ≡ Some (r, n)
+        → StandsAt text r n }
+    ensures read { (text : List ℕ) (r : RefText) (n : ℕ) → StandsAt text r n
+        → reference_at text ≡ Some (r, n) }
 {}
 
 /// What is written reads back, whatever follows it but a digit.
 pub fn written_text_reads_back()
-    ensures reference { (r : RefText) (rest : List ℕ) → IsReference r → is_ascii_digit (slice_index rest 0) ≡ false
+    ensures reference { (r : RefText) (rest : List ℕ) → IsReference r
+        → is_ascii_digit (slice_index rest 0) ≡ false
         → reference_at (reference_text r ++ rest) ≡ Some (r, length (reference_text r)) }
-    ensures cell { (cell : Cell) (rest : List ℕ) → IsCell cell → is_ascii_digit (slice_index rest 0) ≡ false
-        → reference_at (cell_text cell ++ rest) ≡ Some (plain_reference cell, length (cell_text cell)) }
+    ensures cell { (cell : Cell) (rest : List ℕ) → IsCell cell
+        → is_ascii_digit (slice_index rest 0) ≡ false
+        → reference_at (cell_text cell ++ rest)
+        ≡ Some (plain_reference cell, length (cell_text cell)) }
     ensures means { (cell : Cell) → cell_at (plain_reference cell) 1 ≡ cell }
 {}
 
@@ -35,7 +40,8 @@ pub fn each_cell_has_its_text()
 
 /// An area's list has exactly the cells between its corners, in the order of cells and so each once.
 pub fn an_area_lists_its_cells()
-    ensures member { (area : Area) (cell : Cell) → Contains (cells_of area) cell ↔ IsInside area cell }
+    ensures member { (area : Area) (cell : Cell)
+        → Contains (cells_of area) cell ↔ IsInside area cell }
     ensures ordered { (area : Area) → AllPairs (λ a b. cell_cmp a b ≡ Less) (cells_of area) }
     ensures count { (area : Area) → length (cells_of area) ≡ size_of area }
     ensures grid { (area : Area) (cell : Cell) → IsArea area → IsInside area cell → IsCell cell }

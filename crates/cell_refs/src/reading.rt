@@ -25,7 +25,8 @@ pub fn read_ref(text: &[u8]) -> Option<(RefText, usize)>
 
 #[tactic(auto, unfolding(crate::specs::Reading::reference_in))]
 fn reference_of(text: &[u8]) -> Option<(RefText, &[u8])>
-    ensures value { option_map (λ x. (x.0, capitals x.1.now)) result ≡ reference_in (capitals text.now) }
+    ensures value { option_map (λ x. (x.0, capitals x.1.now)) result
+        ≡ reference_in (capitals text.now) }
     ensures shorter { IfSome result (λ x. length x.1.now ≤ length text.now) }
 {
     let (sheet, rest) = sheet_of(text)?;
@@ -46,7 +47,8 @@ fn reference_of(text: &[u8]) -> Option<(RefText, &[u8])>
 /// The sheet that is written at the front.
 #[tactic(auto, unfolding(crate::specs::Reading::sheet_at))]
 fn sheet_of(text: &[u8]) -> Option<(Option<u8>, &[u8])>
-    ensures value { option_map (λ x. (x.0, capitals x.1.now)) result ≡ sheet_at (capitals text.now) }
+    ensures value { option_map (λ x. (x.0, capitals x.1.now)) result
+        ≡ sheet_at (capitals text.now) }
     ensures shorter { IfSome result (λ x. length x.1.now ≤ length text.now) }
 {
     match after_sheet(text) {
@@ -58,7 +60,8 @@ fn sheet_of(text: &[u8]) -> Option<(Option<u8>, &[u8])>
 /// The number of a sheet, and a `!` behind it.
 #[tactic(auto, unfolding(crate::specs::Reading::sheet_number_at))]
 fn sheet_number_of(text: &[u8]) -> Option<(Option<u8>, &[u8])>
-    ensures value { option_map (λ x. (x.0, capitals x.1.now)) result ≡ sheet_number_at (capitals text.now) }
+    ensures value { option_map (λ x. (x.0, capitals x.1.now)) result
+        ≡ sheet_number_at (capitals text.now) }
     ensures shorter { IfSome result (λ x. length x.1.now ≤ length text.now) }
 {
     let (sheet, rest) = number_of(text, u64::from(SHEETS))?;
@@ -70,7 +73,8 @@ fn sheet_number_of(text: &[u8]) -> Option<(Option<u8>, &[u8])>
 
 /// What follows the word `Sheet` in any case.
 fn after_sheet(text: &[u8]) -> Option<&[u8]>
-    ensures value { option_map (λ x. capitals x.now) result ≡ rest_after (codes "SHEET") (capitals text.now) }
+    ensures value { option_map (λ x. capitals x.now) result
+        ≡ rest_after (codes "SHEET") (capitals text.now) }
     ensures shorter { IfSome result (λ x. length x.now ≤ length text.now) }
 {
     match text.split_at_checked(5) {
@@ -93,7 +97,8 @@ fn mark_of(text: &[u8]) -> (bool, &[u8])
 
 /// The column that the letters at the front name.
 fn column_of(text: &[u8]) -> Option<(u16, &[u8])>
-    ensures value { option_map (λ x. (x.0, capitals x.1.now)) result ≡ column_at (capitals text.now) }
+    ensures value { option_map (λ x. (x.0, capitals x.1.now)) result
+        ≡ column_at (capitals text.now) }
     ensures shorter { IfSome result (λ x. length x.1.now ≤ length text.now) }
 {
     let (letters, rest) = text.split_at(letters_len(text));
@@ -108,7 +113,8 @@ fn column_of(text: &[u8]) -> Option<(u16, &[u8])>
 /// The column that one to three letters name.
 #[tactic(auto, unfolding(crate::specs::Reading::column_number))]
 fn column_value(letters: &[u8]) -> Option<u32>
-    ensures { SomeIff result ((0 < length letters.now) × (length letters.now ≤ 3)) (column_number (capitals letters.now)) }
+    ensures { SomeIff result ((0 < length letters.now)
+        × (length letters.now ≤ 3)) (column_number (capitals letters.now)) }
 {
     match letters {
         [a] => Some(letter_number(*a)),
@@ -137,7 +143,8 @@ fn letter_number(letter: u8) -> u32
 
 /// The number at the front, from 1 to the limit, its digits taken to their end.
 pub(crate) fn number_of(text: &[u8], limit: u64) -> Option<(u64, &[u8])>
-    ensures value { option_map (λ x. (x.0, capitals x.1.now)) result ≡ number_at limit (capitals text.now) }
+    ensures value { option_map (λ x. (x.0, capitals x.1.now)) result
+        ≡ number_at limit (capitals text.now) }
     ensures shorter { IfSome result (λ x. length x.1.now ≤ length text.now) }
     ensures within { IfSome result (λ x. x.0 ≤ limit) }
 {
@@ -160,7 +167,8 @@ fn digits_len(text: &[u8]) -> usize
 /// The number that digits without a leading zero stand for, where a `u64` holds it.
 fn value_of(digits: &[u8]) -> Option<u64>
     requires { IsTrue (all_ascii_digits digits.now) }
-    ensures { SomeIff result ((48 < slice_index digits.now 0) × (digits_value 10 digits.now < 2 ^ 64)) (digits_value 10 digits.now) }
+    ensures { SomeIff result ((48 < slice_index digits.now 0)
+        × (digits_value 10 digits.now < 2 ^ 64)) (digits_value 10 digits.now) }
 {
     match digits {
         [] | [b'0', ..] => None,

@@ -10,7 +10,7 @@ use Rattle.std.specs.Cmp.Lexicographic.{slice_cmp}
 use Rattle.std.proofs.lemmas.Map.Lookups.{exact_signed, exact_bytes}
 use Rattle.cell_values.specs.declared.values.Value.{Value}
 use Rattle.cell_values.specs.declared.values.Value.TheVariants.{Num, Text, Bool as Truth, Error, Blank}
-use Rattle.cell_values.specs.Coercion.{folded}
+use Rattle.cell_values.specs.Coercion.{lower_case_of}
 use Rattle.cell_values.specs.Comparison.{text_cmp, rank, value_cmp}
 
 -- neither an error nor a Blank
@@ -36,7 +36,7 @@ number_part Blank = pos 0
 
 text_part : Value → List ℕ
 text_part (Num n) = []
-text_part (Text t) = folded t
+text_part (Text t) = lower_case_of t
 text_part (Truth b) = []
 text_part (Error e) = []
 text_part Blank = []
@@ -91,7 +91,7 @@ preorder = record {
 -- a value with the ASCII letters of its text in lower case
 abbrev pub lowered : Value → Value
 lowered (Num n) = Num n
-lowered (Text t) = Text (folded t)
+lowered (Text t) = Text (lower_case_of t)
 lowered (Truth b) = Truth b
 lowered (Error e) = Error e
 lowered Blank = Blank
@@ -99,7 +99,7 @@ lowered Blank = Blank
 -- values that are level are equal up to the case of ASCII letters
 pub equal_where_level : (a b : Value) → IsPlain a → IsPlain b → value_cmp a b ≡ Equal → lowered a ≡ lowered b
 equal_where_level (Num m) (Num n) p q e = ap Num (exact_signed m n e)
-equal_where_level (Text s) (Text t) p q e = ap Text (exact_bytes (folded s) (folded t) e)
+equal_where_level (Text s) (Text t) p q e = ap Text (exact_bytes (lower_case_of s) (lower_case_of t) e)
 equal_where_level (Truth true) (Truth true) p q e = refl
 equal_where_level (Truth true) (Truth false) p q e = absurd (cc)
 equal_where_level (Truth false) (Truth true) p q e = absurd (cc)
@@ -125,8 +125,8 @@ level_where_equal (Num m) (Num n) p q e =
     let same : m ≡ n = cc in
     ap (λ k. int_cmp m k) (sym same) ∙ tied_itself int_cmp_total m
 level_where_equal (Text s) (Text t) p q e =
-    let same : folded s ≡ folded t = cc in
-    ap (λ k. slice_cmp nat_cmp (folded s) k) (sym same) ∙ tied_itself nat_list_cmp_total (folded s)
+    let same : lower_case_of s ≡ lower_case_of t = cc in
+    ap (λ k. slice_cmp nat_cmp (lower_case_of s) k) (sym same) ∙ tied_itself nat_list_cmp_total (lower_case_of s)
 level_where_equal (Truth true) (Truth true) p q e = refl
 level_where_equal (Truth true) (Truth false) p q e = absurd (cc)
 level_where_equal (Truth false) (Truth true) p q e = absurd (cc)

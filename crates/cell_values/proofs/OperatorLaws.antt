@@ -12,7 +12,7 @@ use Rattle.std.proofs.lemmas.Map.Lookups.{exact_signed}
 use Rattle.std.proofs.lemmas.Map.Views.{tells_apart}
 use Rattle.cell_values.specs.declared.errors.ErrorKind.{ErrorKind}
 use Rattle.cell_values.specs.Value.{MAGNITUDE, within_magnitude, negate_of, quotient}
-use Rattle.cell_values.specs.Coercion.{text_of, joined, joined_texts, on_texts}
+use Rattle.cell_values.specs.Coercion.{text_of, join_of, text_join_of, on_texts}
 use Rattle.cell_values.proofs.DigitFacts.{leb_true, false_from_not}
 
 within_is : (n : ℤ) → unsigned_abs n ≤ 999999999999999 → within_magnitude n ≡ values.Num n
@@ -35,20 +35,20 @@ negate_of-negate_of n small =
     let same = abs_neg n in
     ap negate_of (within_is (neg_ℤ n) (omega (arith, same))) ∙ ap within_magnitude (neg_neg n) ∙ within_is n small
 
-joined_is : (a b : Value) (s t : List ℕ) → text_of a ≡ Ok s → text_of b ≡ Ok t → length (chars (s ++ t)) ≤ 32767 → joined a b ≡ values.Text (s ++ t)
+joined_is : (a b : Value) (s t : List ℕ) → text_of a ≡ Ok s → text_of b ≡ Ok t → length (chars (s ++ t)) ≤ 32767 → join_of a b ≡ values.Text (s ++ t)
 joined_is a b s t e f short =
-    ap (λ r. on_texts joined_texts r (text_of b)) e ∙ ap (on_texts joined_texts (Ok s)) f
+    ap (λ r. on_texts text_join_of r (text_of b)) e ∙ ap (on_texts text_join_of (Ok s)) f
     ∙ ap (λ o. option_map_or values.Text o (values.Error errors.Value)) (ap (λ b. cond b (Some (s ++ t)) None) (leb_true _ _ short))
 
 -- where no operand is an error and nothing is too long, it doesn't matter which two are joined first
 pub joined_assoc : (a b c : Value) (s t u : List ℕ) → text_of a ≡ Ok s → text_of b ≡ Ok t → text_of c ≡ Ok u
     → length (chars (s ++ t)) ≤ 32767 → length (chars (t ++ u)) ≤ 32767 → length (chars ((s ++ t) ++ u)) ≤ 32767
-    → joined (joined a b) c ≡ joined a (joined b c)
+    → join_of (join_of a b) c ≡ join_of a (join_of b c)
 joined_assoc a b c s t u e f g first last whole =
-    let left : joined (joined a b) c ≡ values.Text ((s ++ t) ++ u) =
-    ap (λ v. joined v c) (joined_is a b s t e f first) ∙ joined_is (values.Text (s ++ t)) c (s ++ t) u refl g whole in
-    let right : joined a (joined b c) ≡ values.Text (s ++ (t ++ u)) =
-    ap (joined a) (joined_is b c t u f g last) ∙ joined_is a (values.Text (t ++ u)) s (t ++ u) e refl (rw (← (append_assoc s t u)) whole) in
+    let left : join_of (join_of a b) c ≡ values.Text ((s ++ t) ++ u) =
+    ap (λ v. join_of v c) (joined_is a b s t e f first) ∙ joined_is (values.Text (s ++ t)) c (s ++ t) u refl g whole in
+    let right : join_of a (join_of b c) ≡ values.Text (s ++ (t ++ u)) =
+    ap (join_of a) (joined_is b c t u f g last) ∙ joined_is a (values.Text (t ++ u)) s (t ++ u) e refl (rw (← (append_assoc s t u)) whole) in
     left ∙ ap values.Text (append_assoc s t u) ∙ sym right
 
 choice : {A : Type 0} (b : Bool) (x y z : A) → cond b x y ≡ z → ((b ≡ true) × (x ≡ z)) ⊎ ((b ≡ false) × (y ≡ z))

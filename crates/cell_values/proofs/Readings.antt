@@ -17,7 +17,7 @@ use Rattle.cell_values.specs.declared.values.Value.TheVariants as values
 use Rattle.cell_values.specs.Digits.{whole_number, is_whole, below_zero}
 use Rattle.cell_values.specs.Error.{error_word}
 use Rattle.cell_values.specs.Text.{is_text}
-use Rattle.cell_values.specs.Word.{HasWord, doubled, byte_within, quoted, value_text, begins_with_zero, number_word, bool_word, kind_of_word, undoubled, text_word, text_of_bytes, value_of_word}
+use Rattle.cell_values.specs.Word.{HasWord, with_doubled_quotes, byte_within, quotation_of, value_text, begins_with_zero, number_word, bool_word, kind_of_word, before_closing_quote, text_word, text_of_bytes, value_of_word}
 use Rattle.cell_values.proofs.DigitFacts.{own, both_true}
 use Rattle.cell_values.proofs.WordLaws.{equal_from_eqb, lt_from_ltb}
 
@@ -72,38 +72,38 @@ stands ds n e =
 decimal_again : (ds : List ℕ) (n : ℕ) → Stands ds n → (get_or ds 0 0 ≡ 48 → length ds ≡ 1) → decimal n ≡ ds
 decimal_again ds n s lead = ap decimal (sym s.value) ∙ decimal-digits_value own ds s.digits s.some lead (omega (arith, s.value, s.small))
 
-two_quotes : (c d : ℕ) (cs s t : List ℕ) → c ≡ 34 → d ≡ 34 → cs ≡ doubled s ++ 34 ∷ [] → 34 ∷ s ≡ t → c ∷ d ∷ cs ≡ doubled t ++ 34 ∷ []
+two_quotes : (c d : ℕ) (cs s t : List ℕ) → c ≡ 34 → d ≡ 34 → cs ≡ with_doubled_quotes s ++ 34 ∷ [] → 34 ∷ s ≡ t → c ∷ d ∷ cs ≡ with_doubled_quotes t ++ 34 ∷ []
 two_quotes c d cs s t quote again rest whole =
-    ap (λ k. k ∷ d ∷ cs) quote ∙ ap (λ k. 34 ∷ k ∷ cs) again ∙ ap (λ k. 34 ∷ 34 ∷ k) rest ∙ ap (λ u. doubled u ++ 34 ∷ []) whole
+    ap (λ k. k ∷ d ∷ cs) quote ∙ ap (λ k. 34 ∷ k ∷ cs) again ∙ ap (λ k. 34 ∷ 34 ∷ k) rest ∙ ap (λ u. with_doubled_quotes u ++ 34 ∷ []) whole
 
-other_byte : (c : ℕ) (cs s t : List ℕ) → eqb c 34 ≡ false → cs ≡ doubled s ++ 34 ∷ [] → c ∷ s ≡ t → c ∷ cs ≡ doubled t ++ 34 ∷ []
+other_byte : (c : ℕ) (cs s t : List ℕ) → eqb c 34 ≡ false → cs ≡ with_doubled_quotes s ++ 34 ∷ [] → c ∷ s ≡ t → c ∷ cs ≡ with_doubled_quotes t ++ 34 ∷ []
 other_byte c cs s t other rest whole =
     let itself : byte_within c ≡ c ∷ [] = ap (λ b. cond b (34 ∷ 34 ∷ []) (c ∷ [])) other in
-    ap (λ k. c ∷ k) rest ∙ ap (λ p. (p ++ doubled s) ++ 34 ∷ []) (sym itself) ∙ ap (λ u. doubled u ++ 34 ∷ []) whole
+    ap (λ k. c ∷ k) rest ∙ ap (λ p. (p ++ with_doubled_quotes s) ++ 34 ∷ []) (sym itself) ∙ ap (λ u. with_doubled_quotes u ++ 34 ∷ []) whole
 
-undoubled_is : (w t : List ℕ) → undoubled w ≡ Some t → w ≡ doubled t ++ 34 ∷ []
+undoubled_is : (w t : List ℕ) → before_closing_quote w ≡ Some t → w ≡ with_doubled_quotes t ++ 34 ∷ []
 undoubled_is [] t e = absurd (cc)
 undoubled_is (c ∷ []) t e =
     let p = cond_some (eqb c 34) [] t e in
-    ap (λ k. k ∷ []) (equal_from_eqb c 34 p.0) ∙ ap (λ u. doubled u ++ 34 ∷ []) p.1
+    ap (λ k. k ∷ []) (equal_from_eqb c 34 p.0) ∙ ap (λ u. with_doubled_quotes u ++ 34 ∷ []) p.1
 undoubled_is (c ∷ d ∷ cs) t e =
-    elim (choice (eqb c 34) (cond (eqb d 34) (option_map (λ u. 34 ∷ u) (undoubled cs)) None) (option_map (λ u. c ∷ u) (undoubled (d ∷ cs))) (Some t) e) [
-      | inl h ↦ elim (choice (eqb d 34) (option_map (λ u. 34 ∷ u) (undoubled cs)) None (Some t) h.1) [
-        | inl k ↦ (let m = mapped (λ u. 34 ∷ u) (undoubled cs) t k.1 in
+    elim (choice (eqb c 34) (cond (eqb d 34) (option_map (λ u. 34 ∷ u) (before_closing_quote cs)) None) (option_map (λ u. c ∷ u) (before_closing_quote (d ∷ cs))) (Some t) e) [
+      | inl h ↦ elim (choice (eqb d 34) (option_map (λ u. 34 ∷ u) (before_closing_quote cs)) None (Some t) h.1) [
+        | inl k ↦ (let m = mapped (λ u. 34 ∷ u) (before_closing_quote cs) t k.1 in
             two_quotes c d cs m.0 t (equal_from_eqb c 34 h.0) (equal_from_eqb d 34 k.0) (undoubled_is cs m.0 m.1) m.2)
         | inr k ↦ absurd (none_is_no_some t k.1)
       ]
-      | inr h ↦ (let m = mapped (λ u. c ∷ u) (undoubled (d ∷ cs)) t h.1 in
+      | inr h ↦ (let m = mapped (λ u. c ∷ u) (before_closing_quote (d ∷ cs)) t h.1 in
           other_byte c (d ∷ cs) m.0 t h.0 (undoubled_is (d ∷ cs) m.0 m.1) m.2)
     ]
 
-quoted_again : (w t : List ℕ) → text_word w ≡ Some t → (w ≡ quoted t) × (is_text t ≡ true)
+quoted_again : (w t : List ℕ) → text_word w ≡ Some t → (w ≡ quotation_of t) × (is_text t ≡ true)
 quoted_again [] t e = absurd (cc)
 quoted_again (c ∷ cs) t e =
-    elim (choice (eqb c 34) (option_and_then text_of_bytes (undoubled cs)) None (Some t) e) [
-      | inl h ↦ option_and_then_some {P = (c ∷ cs ≡ quoted t) × (is_text t ≡ true)} text_of_bytes (undoubled cs) t h.1
+    elim (choice (eqb c 34) (option_and_then text_of_bytes (before_closing_quote cs)) None (Some t) e) [
+      | inl h ↦ option_and_then_some {P = (c ∷ cs ≡ quotation_of t) × (is_text t ≡ true)} text_of_bytes (before_closing_quote cs) t h.1
           (λ x read valid. let p = cond_some (is_text x) x t valid in
-          (ap (λ k. k ∷ cs) (equal_from_eqb c 34 h.0) ∙ ap (λ k. 34 ∷ k) (undoubled_is cs x read) ∙ ap quoted p.1, subst (λ k. is_text k ≡ true) p.1 p.0))
+          (ap (λ k. k ∷ cs) (equal_from_eqb c 34 h.0) ∙ ap (λ k. 34 ∷ k) (undoubled_is cs x read) ∙ ap quotation_of p.1, subst (λ k. is_text k ≡ true) p.1 p.0))
       | inr h ↦ absurd (none_is_no_some t h.1)
     ]
 

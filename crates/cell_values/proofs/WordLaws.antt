@@ -12,12 +12,12 @@ use Rattle.cell_values.specs.declared.values.Value.{Value}
 use Rattle.cell_values.specs.declared.values.Value.TheVariants as values
 use Rattle.cell_values.specs.Digits.{whole_number, below_zero}
 use Rattle.cell_values.specs.Text.{is_text}
-use Rattle.cell_values.specs.Word.{HasWord, doubled, byte_within, quoted, value_text, begins_with_zero, number_word, bool_word, kind_of_word, undoubled, text_word, text_of_bytes, value_of_word}
+use Rattle.cell_values.specs.Word.{HasWord, with_doubled_quotes, byte_within, quotation_of, value_text, begins_with_zero, number_word, bool_word, kind_of_word, before_closing_quote, text_word, text_of_bytes, value_of_word}
 use Rattle.cell_values.proofs.DigitFacts.{own, whole_is, false_from_not, both_true}
 
-undoubled_other : (c : ℕ) (xs : List ℕ) → eqb c 34 ≡ false → undoubled (c ∷ xs) ≡ option_map (λ t. c ∷ t) (undoubled xs)
+undoubled_other : (c : ℕ) (xs : List ℕ) → eqb c 34 ≡ false → before_closing_quote (c ∷ xs) ≡ option_map (λ t. c ∷ t) (before_closing_quote xs)
 undoubled_other c [] e = ap (λ b. cond b (Some []) None) e
-undoubled_other c (d ∷ xs) e = ap (λ b. cond b (cond (eqb d 34) (option_map (λ t. 34 ∷ t) (undoubled xs)) None) (option_map (λ t. c ∷ t) (undoubled (d ∷ xs)))) e
+undoubled_other c (d ∷ xs) e = ap (λ b. cond b (cond (eqb d 34) (option_map (λ t. 34 ∷ t) (before_closing_quote xs)) None) (option_map (λ t. c ∷ t) (before_closing_quote (d ∷ xs)))) e
 
 pub equal_from_eqb : (c d : ℕ) → eqb c d ≡ true → c ≡ d
 equal_from_eqb c d e = grind (arith, nat_tests)
@@ -25,19 +25,19 @@ equal_from_eqb c d e = grind (arith, nat_tests)
 pub lt_from_ltb : (m n : ℕ) → ltb m n ≡ true → m < n
 lt_from_ltb m n e = grind (arith, nat_tests)
 
-undoubled_step : (c : ℕ) (b : Bool) (xs : List ℕ) → eqb c 34 ≡ b → undoubled (cond b (34 ∷ 34 ∷ []) (c ∷ []) ++ xs) ≡ option_map (λ t. c ∷ t) (undoubled xs)
-undoubled_step c true xs e = ap (λ d. option_map (λ t. d ∷ t) (undoubled xs)) (sym (equal_from_eqb c 34 e))
+undoubled_step : (c : ℕ) (b : Bool) (xs : List ℕ) → eqb c 34 ≡ b → before_closing_quote (cond b (34 ∷ 34 ∷ []) (c ∷ []) ++ xs) ≡ option_map (λ t. c ∷ t) (before_closing_quote xs)
+undoubled_step c true xs e = ap (λ d. option_map (λ t. d ∷ t) (before_closing_quote xs)) (sym (equal_from_eqb c 34 e))
 undoubled_step c false xs e = undoubled_other c xs e
 
 -- the quotes of a text are made two and one again
-pub undoubled-doubled : (t : List ℕ) → undoubled (doubled t ++ 34 ∷ []) ≡ Some t
+pub undoubled-doubled : (t : List ℕ) → before_closing_quote (with_doubled_quotes t ++ 34 ∷ []) ≡ Some t
 undoubled-doubled [] = refl
 undoubled-doubled (c ∷ cs) =
-    ap undoubled (append_assoc (byte_within c) (doubled cs) (34 ∷ []))
-    ∙ undoubled_step c (eqb c 34) (doubled cs ++ 34 ∷ []) refl
+    ap before_closing_quote (append_assoc (byte_within c) (with_doubled_quotes cs) (34 ∷ []))
+    ∙ undoubled_step c (eqb c 34) (with_doubled_quotes cs ++ 34 ∷ []) refl
     ∙ ap (option_map (λ t. c ∷ t)) (undoubled-doubled cs)
 
-text_word-quoted : (t : List ℕ) → is_text t ≡ true → text_word (quoted t) ≡ Some t
+text_word-quoted : (t : List ℕ) → is_text t ≡ true → text_word (quotation_of t) ≡ Some t
 text_word-quoted t e = ap (option_and_then text_of_bytes) (undoubled-doubled t) ∙ ap (λ b. cond b (Some t) None) e
 
 no_minus : (c : ℕ) → 48 ≤ c → eqb c 45 ≡ false

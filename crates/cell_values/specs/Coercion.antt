@@ -12,12 +12,12 @@ use Rattle.cell_values.specs.declared.values.Value.TheVariants as values
 use Rattle.cell_values.specs.Text.{if_short}
 
 -- a text's bytes with `A` to `Z` made `a` to `z`
-abbrev pub folded : List ℕ → List ℕ
-folded t = map to_ascii_lowercase t
+abbrev pub lower_case_of : List ℕ → List ℕ
+lower_case_of t = map to_ascii_lowercase t
 
 -- the boolean whose word a text is, in any case
 abbrev pub truth_of_text : List ℕ → Result Bool ErrorKind
-truth_of_text t = if bytes_eq (folded t) (codes "true") then Ok true else (if bytes_eq (folded t) (codes "false") then Ok false else Err errors.Value)
+truth_of_text t = if bytes_eq (lower_case_of t) (codes "true") then Ok true else (if bytes_eq (lower_case_of t) (codes "false") then Ok false else Err errors.Value)
 
 -- the boolean that a value counts as, or the error
 abbrev pub truth_of : Value → Result Bool ErrorKind
@@ -36,8 +36,8 @@ text_of (values.Error e) = Err e
 text_of values.Blank = Ok []
 
 -- two texts after one another; too long a text is `#VALUE!`
-abbrev pub joined_texts : List ℕ → List ℕ → Value
-joined_texts s t = option_map_or values.Text (if_short (s ++ t)) (values.Error errors.Value)
+abbrev pub text_join_of : List ℕ → List ℕ → Value
+text_join_of s t = option_map_or values.Text (if_short (s ++ t)) (values.Error errors.Value)
 
 -- what an operation on texts makes of two values: the first error is the answer
 abbrev pub on_texts : (List ℕ → List ℕ → Value) → Result (List ℕ) ErrorKind → Result (List ℕ) ErrorKind → Value
@@ -46,5 +46,5 @@ on_texts f (Ok s) (Err e) = values.Error e
 on_texts f (Ok s) (Ok t) = f s t
 
 -- two values joined as texts
-abbrev pub joined : Value → Value → Value
-joined a b = on_texts joined_texts (text_of a) (text_of b)
+abbrev pub join_of : Value → Value → Value
+join_of a b = on_texts text_join_of (text_of a) (text_of b)

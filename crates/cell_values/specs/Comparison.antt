@@ -7,11 +7,11 @@ use Rattle.cell_values.specs.declared.comparison.CompareOp.{CompareOp}
 use Rattle.cell_values.specs.declared.comparison.CompareOp.TheVariants.{Eq, Ne, Lt, Gt, Le, Ge}
 use Rattle.cell_values.specs.declared.values.Value.{Value}
 use Rattle.cell_values.specs.declared.values.Value.TheVariants as values
-use Rattle.cell_values.specs.Coercion.{folded}
+use Rattle.cell_values.specs.Coercion.{lower_case_of}
 
 -- texts are compared by their bytes, with no difference of case among ASCII letters
 abbrev pub text_cmp : List ℕ → List ℕ → Ordering
-text_cmp s t = slice_cmp nat_cmp (folded s) (folded t)
+text_cmp s t = slice_cmp nat_cmp (lower_case_of s) (lower_case_of t)
 
 -- where the kinds of values stand: numbers before texts, texts before booleans; a Blank counts as 0
 abbrev pub rank : Value → ℕ
@@ -50,7 +50,7 @@ holds Le o = is_le o
 holds Ge o = is_ge o
 
 -- what a comparison answers: the first error, or a boolean
-abbrev pub compared : CompareOp → Value → Value → Value
-compared op (values.Error e) b = values.Error e
-compared op a (values.Error e) = values.Error e
-compared op a b = values.Bool (holds op (order_of a b))
+abbrev pub comparison_of : CompareOp → Value → Value → Value
+comparison_of op (values.Error e) b = values.Error e
+comparison_of op a (values.Error e) = values.Error e
+comparison_of op a b = values.Bool (holds op (order_of a b))

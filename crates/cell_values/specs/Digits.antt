@@ -33,5 +33,5 @@ after_spaces [] = []
 after_spaces (c ∷ cs) = if c == 32 then after_spaces cs else c ∷ cs
 
 -- without the spaces at both ends
-abbrev pub trimmed : List ℕ → List ℕ
-trimmed t = reverse (after_spaces (reverse (after_spaces t)))
+abbrev pub without_outer_spaces : List ℕ → List ℕ
+without_outer_spaces t = reverse (after_spaces (reverse (after_spaces t)))

@@ -6,12 +6,12 @@ use Rattle.cell_values.specs.declared.errors.ErrorKind.{ErrorKind}
 use Rattle.cell_values.specs.declared.errors.ErrorKind.TheVariants as errors
 use Rattle.cell_values.specs.declared.values.Value.{Value}
 use Rattle.cell_values.specs.declared.values.Value.TheVariants as values
-use Rattle.cell_values.specs.Digits.{signed_number, trimmed}
+use Rattle.cell_values.specs.Digits.{signed_number, without_outer_spaces}
 
 -- the number that a value counts as, or the error
 abbrev pub number_of : Value → Result ℤ ErrorKind
 number_of (values.Num n) = Ok n
-number_of (values.Text t) = ok_or (signed_number (trimmed t)) errors.Value
+number_of (values.Text t) = ok_or (signed_number (without_outer_spaces t)) errors.Value
 number_of (values.Bool b) = Ok (if b then pos 1 else pos 0)
 number_of (values.Error e) = Err e
 number_of values.Blank = Ok (pos 0)

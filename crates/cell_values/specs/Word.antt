@@ -17,17 +17,17 @@ abbrev pub byte_within : ℕ → List ℕ
 byte_within c = if c == 34 then 34 ∷ 34 ∷ [] else c ∷ []
 
 -- a text's bytes with each `"` doubled
-abbrev pub doubled : List ℕ → List ℕ
-doubled t = flat_map byte_within t
+abbrev pub with_doubled_quotes : List ℕ → List ℕ
+with_doubled_quotes t = flat_map byte_within t
 
 -- a text as it is written: `"`, its bytes with each `"` doubled, `"`
-abbrev pub quoted : List ℕ → List ℕ
-quoted t = 34 ∷ (doubled t ++ 34 ∷ [])
+abbrev pub quotation_of : List ℕ → List ℕ
+quotation_of t = 34 ∷ (with_doubled_quotes t ++ 34 ∷ [])
 
 -- the written form of a value; a Blank is written as `0`
 abbrev pub value_text : Value → List ℕ
 value_text (values.Num n) = signed_decimal n
-value_text (values.Text t) = quoted t
+value_text (values.Text t) = quotation_of t
 value_text (values.Bool b) = if b then codes "TRUE" else codes "FALSE"
 value_text (values.Error e) = error_word e
 value_text values.Blank = codes "0"
@@ -60,12 +60,12 @@ abbrev pub kind_of_word : List ℕ → Option ErrorKind
 kind_of_word w = find (λ e. bytes_eq w (error_word e)) (errors.Null ∷ errors.Div0 ∷ errors.Value ∷ errors.Ref ∷ errors.Name ∷ errors.Num ∷ errors.Na ∷ [])
 
 -- the bytes up to the closing `"`, which ends the word, with each doubled `"` made one
-abbrev pub undoubled : List ℕ → Option (List ℕ)
-undoubled [] = None
-undoubled (c ∷ []) = if c == 34 then Some [] else None
-undoubled (c ∷ d ∷ cs) =
-    if c == 34 then (if d == 34 then option_map (λ t. 34 ∷ t) (undoubled cs) else None)
-    else option_map (λ t. c ∷ t) (undoubled (d ∷ cs))
+abbrev pub before_closing_quote : List ℕ → Option (List ℕ)
+before_closing_quote [] = None
+before_closing_quote (c ∷ []) = if c == 34 then Some [] else None
+before_closing_quote (c ∷ d ∷ cs) =
+    if c == 34 then (if d == 34 then option_map (λ t. 34 ∷ t) (before_closing_quote cs) else None)
+    else option_map (λ t. c ∷ t) (before_closing_quote (d ∷ cs))
 
 -- bytes that are a text
 abbrev pub text_of_bytes : List ℕ → Option (List ℕ)
@@ -74,7 +74,7 @@ text_of_bytes t = if is_text t then Some t else None
 -- `"`, the bytes of a text with each `"` doubled, `"`
 abbrev pub text_word : List ℕ → Option (List ℕ)
 text_word [] = None
-text_word (c ∷ cs) = if c == 34 then option_and_then text_of_bytes (undoubled cs) else None
+text_word (c ∷ cs) = if c == 34 then option_and_then text_of_bytes (before_closing_quote cs) else None
 
 -- what a value word says; None where the bytes are no value word
 abbrev pub value_of_word : List ℕ → Option Value

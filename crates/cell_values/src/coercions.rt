@@ -1,7 +1,7 @@
 ghost use Rattle.std.specs.Prelude.{◌≡◌, IfOk};
 ghost use Rattle.std.specs.Fmt.{signed_decimal};
 ghost use Rattle.cell_values.specs.Value.{number_of};
-ghost use Rattle.cell_values.specs.Coercion.{truth_of, truth_of_text, text_of, joined, joined_texts};
+ghost use Rattle.cell_values.specs.Coercion.{truth_of, truth_of_text, text_of, join_of, text_join_of};
 
 use super::digits::{signed, trim_spaces};
 use super::errors::{ErrorKind, Memory};
@@ -79,7 +79,7 @@ fn number_to_text(alloc: Global, n: i64) -> Result<Text, Memory>
 
 /// Two values joined as texts.
 pub fn join(alloc: Global, a: &Value, b: &Value) -> Result<Value, Memory>
-    ensures { IfOk result (λ value. value ≡ joined a.now b.now) }
+    ensures { IfOk result (λ value. value ≡ join_of a.now b.now) }
 {
     match (to_text(alloc, a)?, to_text(alloc, b)?) {
         (Err(kind), _) => Ok(Value::Error(kind)),
@@ -90,7 +90,7 @@ pub fn join(alloc: Global, a: &Value, b: &Value) -> Result<Value, Memory>
 
 /// Two texts after one another, or `#VALUE!` where they are too long together.
 fn join_texts(alloc: Global, s: &Text, t: &Text) -> Result<Value, Memory>
-    ensures { IfOk result (λ value. value ≡ joined_texts s.now t.now) }
+    ensures { IfOk result (λ value. value ≡ text_join_of s.now t.now) }
 {
     match s.followed_by(alloc, t) {
         Ok(Some(both)) => Ok(Value::Text(both)),

@@ -1,5 +1,5 @@
 ghost use Rattle.std.specs.Prelude.{◌≡◌};
-ghost use Rattle.cell_values.specs.Comparison.{compared, holds, order_of, rank, text_cmp};
+ghost use Rattle.cell_values.specs.Comparison.{comparison_of, holds, order_of, rank, text_cmp};
 
 use super::values::Value;
 use std::cmp::Ordering;
@@ -17,7 +17,7 @@ pub enum CompareOp {
 
 /// Whether a comparison holds of two values, or the first error.
 pub fn compare(op: CompareOp, a: &Value, b: &Value) -> Value
-    ensures { result ≡ compared op a.now b.now }
+    ensures { result ≡ comparison_of op a.now b.now }
 {
     match (a, b) {
         (Value::Error(kind), _) => Value::Error(*kind),

@@ -1,6 +1,6 @@
 ghost use Rattle.std.specs.Prelude.{◌≡◌, ◌≤◌, pos, unsigned_abs, IfSome};
 ghost use Rattle.std.specs.Option.{option_map};
-ghost use Rattle.cell_values.specs.Digits.{whole_number, below_zero, signed_number, after_spaces, trimmed};
+ghost use Rattle.cell_values.specs.Digits.{whole_number, below_zero, signed_number, after_spaces, without_outer_spaces};
 ghost use Rattle.cell_values.specs.Word.{number_word};
 
 /// The greatest magnitude of a number.
@@ -74,7 +74,7 @@ pub fn skip_spaces(bytes: &[u8]) -> &[u8]
 
 /// Without the spaces at both ends.
 pub fn trim_spaces(bytes: &[u8]) -> &[u8]
-    ensures { result.now ≡ trimmed bytes.now }
+    ensures { result.now ≡ without_outer_spaces bytes.now }
 {
     let mut rest = skip_spaces(bytes);
     while let [front @ .., b' '] = rest {

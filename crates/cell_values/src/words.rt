@@ -1,5 +1,5 @@
 ghost use Rattle.std.specs.Prelude.{◌≡◌, ◌++◌, length, take, Some, None, IfOk, OnOk, OnErr};
-ghost use Rattle.cell_values.specs.Word.{value_text, value_of_word, HasWord, quoted, byte_within, undoubled, text_word, text_of_bytes, bool_word, kind_of_word};
+ghost use Rattle.cell_values.specs.Word.{value_text, value_of_word, HasWord, quotation_of, byte_within, before_closing_quote, text_word, text_of_bytes, bool_word, kind_of_word};
 
 use super::digits::read_number_word;
 use super::errors::{ErrorKind, Memory};
@@ -57,7 +57,7 @@ fn append(out: &mut Vec<u8>, bytes: &[u8]) -> Result<(), Memory>
 
 /// Appends a text between quotes, with each quote in it doubled.
 fn append_quoted(out: &mut Vec<u8>, text: &[u8]) -> Result<(), Memory>
-    ensures ok { OnOk result (out.new.items ≡ out.old.items ++ quoted text.now) }
+    ensures ok { OnOk result (out.new.items ≡ out.old.items ++ quotation_of text.now) }
     ensures err { OnErr result (out.new.items ≡ out.old.items) }
 {
     let start = out.len();
@@ -72,7 +72,7 @@ fn append_quoted(out: &mut Vec<u8>, text: &[u8]) -> Result<(), Memory>
 
 /// Appends a text between quotes, with each quote in it doubled, or the beginning of that.
 fn push_quoted(out: &mut Vec<u8>, text: &[u8]) -> Result<(), Memory>
-    ensures ok { OnOk result (out.new.items ≡ out.old.items ++ quoted text.now) }
+    ensures ok { OnOk result (out.new.items ≡ out.old.items ++ quotation_of text.now) }
     ensures err { OnErr result (take (length out.old.items) out.new.items ≡ out.old.items) }
 {
     append(out, b"\"")?;
@@ -189,8 +189,8 @@ fn text_from_bytes(alloc: Global, bytes: &[u8]) -> Result<Text, ValueFault>
 
 /// The bytes up to the closing quote, with each doubled quote made one.
 fn undouble(alloc: Global, word: &[u8]) -> Result<Vec<u8>, ValueFault>
-    ensures ok { IfOk result (λ bytes. undoubled word.now ≡ Some bytes.items) }
-    ensures form { result ≡ Err ValueFault.Form → undoubled word.now ≡ None }
+    ensures ok { IfOk result (λ bytes. before_closing_quote word.now ≡ Some bytes.items) }
+    ensures form { result ≡ Err ValueFault.Form → before_closing_quote word.now ≡ None }
 {
     let mut bytes = Vec::new(alloc);
     let mut rest = word;

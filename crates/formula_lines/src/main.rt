@@ -4,7 +4,7 @@
 
 ghost use Rattle.std.specs.Prelude.{◌≡◌, IfOk};
 ghost use Rattle.std.specs.String.{string_bytes};
-ghost use Rattle.formula_parse.specs.Printing.{printed};
+ghost use Rattle.formula_parse.specs.Printing.{canonical_text};
 ghost use Rattle.formula_lines.specs.Words.{word_of};
 
 use formula_parse::{ParseFault, Tree, parse, print};
@@ -13,7 +13,7 @@ use std::io;
 
 /// The canonical text of a formula.
 fn canonical(alloc: Global, tree: &Tree) -> io::Result<String>
-    ensures { IfOk result (λ text. string_bytes text ≡ printed tree.now) }
+    ensures { IfOk result (λ text. string_bytes text ≡ canonical_text tree.now) }
 {
     let mut out = Vec::new(alloc);
     if print(tree, &mut out).is_err() {

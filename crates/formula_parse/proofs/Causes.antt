@@ -10,7 +10,7 @@ use Rattle.formula_parse.specs.declared.nodes.Node.{Node}
 use Rattle.formula_parse.specs.declared.reader.Reader.{Reader}
 use Rattle.formula_parse.specs.declared.tokens.Token.{Token}
 use Rattle.formula_parse.specs.Faults.{IsUnlimitedFormula, IsTooDeep, IsOverOpen, IsSyntaxPlace, IsShort, IsFormula, IsSyntaxFault, IsRangeFault, IsNumberFault}
-use Rattle.formula_parse.specs.Reading.{ended, at_end, judged, first_reader, read_from, read_text, is_wide_area, is_large_number, is_too_long, parsed, formula_of}
+use Rattle.formula_parse.specs.Reading.{tree_at_end, at_end, tree_or_fault, first_reader, read_from, read_text, is_wide_area, is_large_number, is_too_long, parse_result, formula_of}
 use Rattle.formula_parse.specs.Tokens.{IsSpelled, are_spaces}
 use Rattle.formula_parse.proofs.Depths.{deep_text, shallow_text, empty_not_over}
 use Rattle.formula_parse.proofs.Outcomes.{Ends, outcome_from}
@@ -44,7 +44,7 @@ judged_cause text last tree formed false w a false l b = (formed, a, b)
 not_noted : (a b : Bool) → a ≡ (false || b) → b ≡ a
 not_noted a b h = sym h
 
-end_cause : (front rest : List ℕ) (ts : List Token) (last : Reader) → Reads first_reader front rest ts last → are_spaces rest ≡ true → (tree : Option Node) → ended last.phase last.frames ≡ tree → Cause (61 ∷ (front ++ rest)) (at_end last (1 + length front + length rest) tree)
+end_cause : (front rest : List ℕ) (ts : List Token) (last : Reader) → Reads first_reader front rest ts last → are_spaces rest ≡ true → (tree : Option Node) → tree_at_end last.phase last.frames ≡ tree → Cause (61 ∷ (front ++ rest)) (at_end last (1 + length front + length rest) tree)
 end_cause front rest ts last r s None e = (shallow_text front rest ts last r (inl s), λ written tree formula. no_tree tree (sym e ∙ (formula_agrees front rest ts written last tree r s formula).same_tree), end_place front rest ts last r s)
   where
     no_tree : (tree : Node) → None ≡ Some tree → ⊥
@@ -54,7 +54,7 @@ end_cause front rest ts last r s (Some tree) e =
     judged_cause (61 ∷ (front ++ rest)) last tree formed last.has_wide_area refl (not_noted _ _ (reads_note_areas ts first_reader front rest last r)) last.has_large_number refl (not_noted _ _ (reads_note_numbers ts first_reader front rest last r))
 
 ends_cause : (front rest : List ℕ) (ts : List Token) (last : Reader) (answer : Result Node ParseFault) → Reads first_reader front rest ts last → Ends last (1 + length front) rest answer → Cause (61 ∷ (front ++ rest)) answer
-ends_cause front rest ts last answer r (inl whole) = subst (Cause (61 ∷ (front ++ rest))) (sym whole.gives) (end_cause front rest ts last r whole.spaces (ended last.phase last.frames) refl)
+ends_cause front rest ts last answer r (inl whole) = subst (Cause (61 ∷ (front ++ rest))) (sym whole.gives) (end_cause front rest ts last r whole.spaces (tree_at_end last.phase last.frames) refl)
 ends_cause front rest ts last answer r (inr (inl stuck)) =
     let r' = subst (λ x. Reads first_reader front x ts last) stuck.parts r in
     subst (Cause (61 ∷ (front ++ rest))) (sym stuck.gives) (subst (λ x. Cause (61 ∷ (front ++ x)) (Err (faults.Syntax (1 + length front + length stuck.gap + Rattle.formula_parse.specs.Reading.begun_behind last.phase stuck.stop)))) (sym stuck.parts) (
@@ -181,8 +181,8 @@ answered text answer c = one_cause text (read_text text) answer (cause_of text) 
 short_test : (text : List ℕ) → IsShort text → is_too_long text ≡ false
 short_test text s = le-ltb 8192 (length (chars text)) s.1
 
-pub parsed_short : (text : List ℕ) → IsShort text → parsed text ≡ read_text text
-unfolding parsed
+pub parsed_short : (text : List ℕ) → IsShort text → parse_result text ≡ read_text text
+unfolding parse_result
 parsed_short text s = ap (λ b. if b then Err faults.TooLong else read_text text) (short_test text s)
 
 pub formed_is_formula : (text : List ℕ) (tree : Node) → IsShort text → Cause text (Ok tree) → IsFormula text tree
@@ -204,7 +204,7 @@ read_ok text tree s h = formed_is_formula text tree s (subst (Cause text) h (cau
 pub formula_back : (text : List ℕ) (tree : Node) → IsFormula text tree → formula_of text ≡ Some tree
 unfolding formula_of
 formula_back text tree f =
-    ap (λ b. if b then result_ok (parsed text) else None) f.shallow.0.0
+    ap (λ b. if b then result_ok (parse_result text) else None) f.shallow.0.0
     ∙ ap result_ok (parsed_short text f.shallow.0 ∙ answered text (Ok tree) (formula_is_formed text tree f))
 
 ok_of : (answer : Result Node ParseFault) (tree : Node) → result_ok answer ≡ Some tree → answer ≡ Ok tree
@@ -215,12 +215,12 @@ parsed_by_length : (text : List ℕ) (tree : Node) → is_utf8 text ≡ true →
 parsed_by_length text tree u true l h = cc
 parsed_by_length text tree u false l h = read_ok text tree (u, ltb-false 8192 (length (chars text)) l) h
 
-parsed_ok : (text : List ℕ) (tree : Node) → is_utf8 text ≡ true → parsed text ≡ Ok tree → IsFormula text tree
-unfolding parsed
+parsed_ok : (text : List ℕ) (tree : Node) → is_utf8 text ≡ true → parse_result text ≡ Ok tree → IsFormula text tree
+unfolding parse_result
 parsed_ok text tree u h = parsed_by_length text tree u (is_too_long text) refl h
 
-formula_by_utf8 : (text : List ℕ) (tree : Node) (utf8 : Bool) → is_utf8 text ≡ utf8 → (if utf8 then result_ok (parsed text) else None) ≡ Some tree → IsFormula text tree
-formula_by_utf8 text tree true u h = parsed_ok text tree u (ok_of (parsed text) tree h)
+formula_by_utf8 : (text : List ℕ) (tree : Node) (utf8 : Bool) → is_utf8 text ≡ utf8 → (if utf8 then result_ok (parse_result text) else None) ≡ Some tree → IsFormula text tree
+formula_by_utf8 text tree true u h = parsed_ok text tree u (ok_of (parse_result text) tree h)
 formula_by_utf8 text tree false u h = cc
 
 pub formula_forth : (text : List ℕ) (tree : Node) → formula_of text ≡ Some tree → IsFormula text tree
@@ -228,10 +228,10 @@ unfolding formula_of
 formula_forth text tree h = formula_by_utf8 text tree (is_utf8 text) refl h
 
 -- each fault and its cause
-pub fault_cause : (text : List ℕ) (answer : Result Node ParseFault) → IsShort text → parsed text ≡ answer → Cause text answer
+pub fault_cause : (text : List ℕ) (answer : Result Node ParseFault) → IsShort text → parse_result text ≡ answer → Cause text answer
 fault_cause text answer s h = subst (Cause text) (sym (parsed_short text s) ∙ h) (cause_of text)
 
-pub cause_fault : (text : List ℕ) (answer : Result Node ParseFault) → IsShort text → Cause text answer → parsed text ≡ answer
+pub cause_fault : (text : List ℕ) (answer : Result Node ParseFault) → IsShort text → Cause text answer → parse_result text ≡ answer
 cause_fault text answer s c = parsed_short text s ∙ answered text answer c
 
 pub syntax_cause : (text : List ℕ) (place : ℕ) → IsShort text → Cause text (Err (faults.Syntax place)) → IsSyntaxFault text place

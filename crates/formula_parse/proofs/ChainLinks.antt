@@ -11,7 +11,7 @@ use Rattle.formula_parse.specs.declared.reader.OpenChain.{OpenChain}
 use Rattle.formula_parse.specs.declared.tokens.Token.{Token}
 use Rattle.formula_parse.specs.declared.tokens.Token.TheVariants as tokens
 use Rattle.formula_parse.specs.Grammar.{place_of, Written, IsChain, IsWritten}
-use Rattle.formula_parse.specs.Reading.{place_of_chain, closed, bound, finished, chained}
+use Rattle.formula_parse.specs.Reading.{place_of_chain, chain_node, operand_in_chains, tree_of_chains, chains_with}
 use Rattle.formula_parse.proofs.NodeLaws.{chain_is_written}
 use Rattle.formula_parse.proofs.TurnGrammar.{written_from, written_below, place_is_low}
 
@@ -81,34 +81,34 @@ outer_first : (outer own last written : List Token) → written ≡ outer ++ own
 outer_first outer own last written e = sym (append_assoc outer own last) ∙ ap (λ w. w ++ last) (sym e)
 
 -- all chains closed round an operand
-pub finished_written : (chains : List OpenChain) (operand : Node) (tight : ℕ) (written own : List Token) → AreChains chains written → IsLooser tight chains → IsWritten operand tight own → IsWritten (finished operand chains) 0 (written ++ own)
+pub finished_written : (chains : List OpenChain) (operand : Node) (tight : ℕ) (written own : List Token) → AreChains chains written → IsLooser tight chains → IsWritten operand tight own → IsWritten (tree_of_chains operand chains) 0 (written ++ own)
 finished_written [] operand tight written own h looser w = subst (λ v. IsWritten operand 0 (v ++ own)) (sym h) (written_below operand 0 tight own (omega arith) w)
 finished_written (chain ∷ chains) operand tight written own h looser w =
     let last = written_below operand (suc (place_of_chain chain)) tight own (omega arith) w in
     let whole = closed_written chain.operands chain.operators operand h.1 own h.3 h.4 last in
-    subst (IsWritten (finished (closed chain operand) chains) 0) (outer_first h.0 h.1 own written h.2)
-    (finished_written chains (closed chain operand) (place_of_chain chain) h.0 (h.1 ++ own) h.6 h.5 whole)
+    subst (IsWritten (tree_of_chains (chain_node chain operand) chains) 0) (outer_first h.0 h.1 own written h.2)
+    (finished_written chains (chain_node chain operand) (place_of_chain chain) h.0 (h.1 ++ own) h.6 h.5 whole)
 
 -- an operand and the chains round it, none of which is tighter than a place
 abbrev IsBound : ℕ → Node × List OpenChain → List Token → Type 0
 IsBound place result written = (outer own : List Token) × (written ≡ outer ++ own) × AreChains result.1 outer × IsLooser (suc place) result.1 × IsWritten result.0 (suc place) own
 
 -- by whether the tightest chain is tighter than the place
-bound_where : (is_tight : Bool) (place : ℕ) (chain : OpenChain) (chains : List OpenChain) (operand : Node) (tight : ℕ) (written own : List Token) → nat_lt place (place_of_chain chain) ≡ is_tight → place < tight → AreChains (chain ∷ chains) written → IsWritten operand tight own → (place < place_of_chain chain → IsBound place (bound place (closed chain operand) chains) (written ++ own)) → IsBound place (if is_tight then bound place (closed chain operand) chains else (operand, chain ∷ chains)) (written ++ own)
+bound_where : (is_tight : Bool) (place : ℕ) (chain : OpenChain) (chains : List OpenChain) (operand : Node) (tight : ℕ) (written own : List Token) → nat_lt place (place_of_chain chain) ≡ is_tight → place < tight → AreChains (chain ∷ chains) written → IsWritten operand tight own → (place < place_of_chain chain → IsBound place (operand_in_chains place (chain_node chain operand) chains) (written ++ own)) → IsBound place (if is_tight then operand_in_chains place (chain_node chain operand) chains else (operand, chain ∷ chains)) (written ++ own)
 bound_where true place chain chains operand tight written own e within h w onward = onward (ltb-true place (place_of_chain chain) e)
 bound_where false place chain chains operand tight written own e within h w onward =
     let low = ltb-false place (place_of_chain chain) e in
     (written, own, refl, h, omega arith, written_below operand (suc place) tight own (omega arith) w)
 
 -- the chains closed round an operand that are tighter than a place
-pub bound_written : (place : ℕ) (chains : List OpenChain) (operand : Node) (tight : ℕ) (written own : List Token) → place < tight → AreChains chains written → IsLooser tight chains → IsWritten operand tight own → IsBound place (bound place operand chains) (written ++ own)
+pub bound_written : (place : ℕ) (chains : List OpenChain) (operand : Node) (tight : ℕ) (written own : List Token) → place < tight → AreChains chains written → IsLooser tight chains → IsWritten operand tight own → IsBound place (operand_in_chains place operand chains) (written ++ own)
 bound_written place [] operand tight written own within h looser w = (written, own, refl, h, tt, written_below operand (suc place) tight own (omega arith) w)
 bound_written place (chain ∷ chains) operand tight written own within h looser w =
     bound_where (nat_lt place (place_of_chain chain)) place chain chains operand tight written own refl within h w (λ low.
     let last = written_below operand (suc (place_of_chain chain)) tight own (omega arith) w in
     let whole = closed_written chain.operands chain.operators operand h.1 own h.3 h.4 last in
-    subst (IsBound place (bound place (closed chain operand) chains)) (outer_first h.0 h.1 own written h.2)
-    (bound_written place chains (closed chain operand) (place_of_chain chain) h.0 (h.1 ++ own) low h.6 h.5 whole))
+    subst (IsBound place (operand_in_chains place (chain_node chain operand) chains)) (outer_first h.0 h.1 own written h.2)
+    (bound_written place chains (chain_node chain operand) (place_of_chain chain) h.0 (h.1 ++ own) low h.6 h.5 whole))
 
 -- ---- an operator behind an operand
 -- a new chain, of one operand and operator
@@ -142,9 +142,9 @@ chained_where true op operand chain chains outer own written e both h low w =
 chained_where false op operand chain chains outer own written e both h low w = new_chain op operand (chain ∷ chains) outer own written both h (below_other (place_of_chain chain) (place_of op) low e) w
 
 -- an operand and the operator behind it
-pub chained_written : (op : Operator) (result : Node × List OpenChain) (written : List Token) → IsBound (place_of op) result written → AreChains (chained op result) (written ++ tokens.Operator op ∷ [])
+pub chained_written : (op : Operator) (result : Node × List OpenChain) (written : List Token) → IsBound (place_of op) result written → AreChains (chains_with op result) (written ++ tokens.Operator op ∷ [])
 chained_written op result written h = chained_by op result.0 result.1 h.0 h.1 written h.2 h.3 h.4 h.5
   where
-    chained_by : (op : Operator) (operand : Node) (chains : List OpenChain) (outer own written : List Token) → written ≡ outer ++ own → AreChains chains outer → IsLooser (suc (place_of op)) chains → IsWritten operand (suc (place_of op)) own → AreChains (chained op (operand, chains)) (written ++ tokens.Operator op ∷ [])
+    chained_by : (op : Operator) (operand : Node) (chains : List OpenChain) (outer own written : List Token) → written ≡ outer ++ own → AreChains chains outer → IsLooser (suc (place_of op)) chains → IsWritten operand (suc (place_of op)) own → AreChains (chains_with op (operand, chains)) (written ++ tokens.Operator op ∷ [])
     chained_by op operand [] outer own written both h looser w = new_chain op operand [] outer own written both h tt w
     chained_by op operand (chain ∷ chains) outer own written both h looser w = chained_where (place_of_chain chain == place_of op) op operand chain chains outer own written refl both h looser w

@@ -14,7 +14,7 @@ use Rattle.formula_parse.specs.declared.reader.Phase.TheVariants as phases
 use Rattle.formula_parse.specs.declared.tokens.Token.{Token}
 use Rattle.formula_parse.specs.declared.tokens.Token.TheVariants as tokens
 use Rattle.formula_parse.specs.Grammar.{place_of, IsSigned, IsEnclosed, AreArguments, IsChain, IsChainAt, IsWritten}
-use Rattle.formula_parse.specs.Reading.{place_of_chain, closed, bound, finished, chained, joined}
+use Rattle.formula_parse.specs.Reading.{place_of_chain, chain_node, operand_in_chains, tree_of_chains, chains_with, chains_behind}
 use Rattle.formula_parse.proofs.Machine.{ran}
 use Rattle.formula_parse.proofs.NodeLaws.{node_induction, number_is_written, text_is_written, error_is_written, boolean_is_written, reference_is_written, area_is_written, call_is_written, parentheses_is_written, negation_is_written, chain_is_written}
 use Rattle.formula_parse.proofs.ChainLinks.{IsLooser, place_of_more, has_more}
@@ -32,12 +32,12 @@ other_number : (a b : ℕ) → a < b → a == b ≡ false
 other_number a b low = grind (arith, nat_tests)
 
 -- no chain is closed round an operand at a place that is no looser
-bound_none : (place : ℕ) (operand : Node) (chains : List OpenChain) → IsLooser (suc place) chains → bound place operand chains ≡ (operand, chains)
+bound_none : (place : ℕ) (operand : Node) (chains : List OpenChain) → IsLooser (suc place) chains → operand_in_chains place operand chains ≡ (operand, chains)
 bound_none place operand [] looser = refl
 bound_none place operand (chain ∷ chains) looser = cond-false (nat_lt place (place_of_chain chain)) _ _ (le-ltb place (place_of_chain chain) (omega arith))
 
 -- a chain is closed round an operand at a looser place
-bound_once : (place : ℕ) (operand : Node) (chain : OpenChain) (chains : List OpenChain) → place < place_of_chain chain → bound place operand (chain ∷ chains) ≡ bound place (closed chain operand) chains
+bound_once : (place : ℕ) (operand : Node) (chain : OpenChain) (chains : List OpenChain) → place < place_of_chain chain → operand_in_chains place operand (chain ∷ chains) ≡ operand_in_chains place (chain_node chain operand) chains
 bound_once place operand chain chains low = cond-true (nat_lt place (place_of_chain chain)) _ _ (lt-ltb place (place_of_chain chain) low)
 
 -- looser than a place is looser than a tighter one
@@ -46,18 +46,18 @@ looser_than_more low place [] le looser = tt
 looser_than_more low place (chain ∷ chains) le looser = omega arith
 
 -- an operator that is tighter than all chains begins one
-chained_new : (op : Operator) (operand : Node) (chains : List OpenChain) → IsLooser (place_of op) chains → chained op (operand, chains) ≡ (record { operands = operand ∷ []; operators = op ∷ [] }) ∷ chains
+chained_new : (op : Operator) (operand : Node) (chains : List OpenChain) → IsLooser (place_of op) chains → chains_with op (operand, chains) ≡ (record { operands = operand ∷ []; operators = op ∷ [] }) ∷ chains
 chained_new op operand [] looser = refl
 chained_new op operand (chain ∷ chains) looser = cond-false (place_of_chain chain == place_of op) _ _ (other_number (place_of_chain chain) (place_of op) looser)
 
 -- an operator goes on with a chain of its place
-chained_same : (op : Operator) (operand : Node) (chain : OpenChain) (chains : List OpenChain) → place_of_chain chain ≡ place_of op → chained op (operand, chain ∷ chains) ≡ (record { operands = chain.operands ++ operand ∷ []; operators = chain.operators ++ op ∷ [] }) ∷ chains
+chained_same : (op : Operator) (operand : Node) (chain : OpenChain) (chains : List OpenChain) → place_of_chain chain ≡ place_of op → chains_with op (operand, chain ∷ chains) ≡ (record { operands = chain.operands ++ operand ∷ []; operators = chain.operators ++ op ∷ [] }) ∷ chains
 chained_same op operand chain chains same = cond-true (place_of_chain chain == place_of op) _ _ (same_number (place_of_chain chain) (place_of op) same)
 
 -- the turns over an operand, an operator and what follows
-operator_run : (frame : Frame) (frames : List Frame) (chains next : List OpenChain) (front rest : List Token) (op : Operator) (tree : Node) (taken : IsTaken frame frames chains front (suc (place_of op)) tree chains) → chained op (bound (place_of op) tree chains) ≡ next → ran (phases.Signs 0, with_chains frame frames chains) (front ++ tokens.Operator op ∷ rest) ≡ ran (phases.Signs 0, with_chains frame frames next) rest
+operator_run : (frame : Frame) (frames : List Frame) (chains next : List OpenChain) (front rest : List Token) (op : Operator) (tree : Node) (taken : IsTaken frame frames chains front (suc (place_of op)) tree chains) → chains_with op (operand_in_chains (place_of op) tree chains) ≡ next → ran (phases.Signs 0, with_chains frame frames chains) (front ++ tokens.Operator op ∷ rest) ≡ ran (phases.Signs 0, with_chains frame frames next) rest
 operator_run frame frames chains next front rest op tree taken e =
-    let same : joined taken.operand op taken.left ≡ next = ap (chained op) (taken.bounds (place_of op) (omega arith)) ∙ e in
+    let same : chains_behind taken.operand op taken.left ≡ next = ap (chains_with op) (taken.bounds (place_of op) (omega arith)) ∙ e in
     ran_behind (phases.Signs 0, with_chains frame frames chains) (phases.After taken.operand, with_chains frame frames taken.left) front (tokens.Operator op ∷ rest) taken.runs ∙ ap (λ left. ran (phases.Signs 0, with_chains frame frames left) rest) same
 
 -- ---- a chain
@@ -67,12 +67,12 @@ taken_behind frame frames chains next written rest low place tree whole round e 
   operand = taken.operand;
   left = taken.left;
   runs = e ∙ taken.runs;
-  bounds = λ q within. taken.bounds q (omega arith) ∙ ap (λ node. bound q node round) same;
-  ends = taken.ends ∙ ap (λ node. finished node round) same;
+  bounds = λ q within. taken.bounds q (omega arith) ∙ ap (λ node. operand_in_chains q node round) same;
+  ends = taken.ends ∙ ap (λ node. tree_of_chains node round) same;
 }
 
 -- a last operand, round which its chain is closed
-last_taken : (frame : Frame) (frames : List Frame) (chain : OpenChain) (chains : List OpenChain) (written : List Token) (tree : Node) → IsTaken frame frames (chain ∷ chains) written (suc (place_of_chain chain)) tree (chain ∷ chains) → IsTaken frame frames (chain ∷ chains) written (place_of_chain chain) (closed chain tree) chains
+last_taken : (frame : Frame) (frames : List Frame) (chain : OpenChain) (chains : List OpenChain) (written : List Token) (tree : Node) → IsTaken frame frames (chain ∷ chains) written (suc (place_of_chain chain)) tree (chain ∷ chains) → IsTaken frame frames (chain ∷ chains) written (place_of_chain chain) (chain_node chain tree) chains
 last_taken frame frames chain chains written tree taken = record {
   operand = taken.operand;
   left = taken.left;
@@ -88,7 +88,7 @@ chain_taken [] y xs done [] place frame frames chains written each low some is w
     let own = subst (λ p. IsWritten y (suc p) written) (sym is) w in
     let taken = All-head AreTaken y [] each in
     let last = taken.placed (suc (place_of_chain chain)) written (omega arith) own frame frames (chain ∷ chains) (omega arith) in
-    taken_behind frame frames (chain ∷ chains) (chain ∷ chains) written written place (place_of_chain chain) (closed chain y) (nodes.Chain (xs ++ y ∷ []) (done ++ [])) chains refl (omega arith)
+    taken_behind frame frames (chain ∷ chains) (chain ∷ chains) written written place (place_of_chain chain) (chain_node chain y) (nodes.Chain (xs ++ y ∷ []) (done ++ [])) chains refl (omega arith)
     (ap (nodes.Chain (xs ++ y ∷ [])) (sym (append-nil done)))
     (last_taken frame frames chain chains written y last)
 chain_taken [] y xs done (op ∷ ops) place frame frames chains written each low some is w = absurd w
@@ -100,7 +100,7 @@ chain_taken (z ∷ zs) y xs done (op ∷ ops) place frame frames chains written 
     let own = subst (λ p. IsWritten y (suc p) w.0) (sym w.4) w.3 in
     let taken = All-head AreTaken y (z ∷ zs) each in
     let one = taken.placed (suc (place_of op)) w.0 (omega (arith, w.4)) own frame frames (chain ∷ chains) within in
-    let joins = ap (chained op) (bound_none (place_of op) y (chain ∷ chains) within) ∙ chained_same op y chain chains (is ∙ sym w.4) in
+    let joins = ap (chains_with op) (bound_none (place_of op) y (chain ∷ chains) within) ∙ chained_same op y chain chains (is ∙ sym w.4) in
     let run = ap (ran (phases.Signs 0, with_chains frame frames (chain ∷ chains))) w.2 ∙ operator_run frame frames (chain ∷ chains) (more ∷ chains) w.0 w.1 op y one joins in
     let stays = place_of_more xs (xs ++ y ∷ []) done (op ∷ []) some ∙ is in
     let rest = chain_taken zs z (xs ++ y ∷ []) (done ++ op ∷ []) ops place frame frames chains w.1 (All-tail AreTaken y (z ∷ zs) each) low (has_more done op) stays w.5 in
@@ -120,7 +120,7 @@ whole_chain_taken (x ∷ y ∷ ys) (op ∷ ops) place written each w frame frame
     let within = looser_than_more place (suc (place_of op)) chains (omega (arith, w.0)) looser in
     let taken = All-head AreTaken x (y ∷ ys) each in
     let one = taken.placed (suc (place_of op)) v.0 (omega arith) v.3 frame frames chains within in
-    let joins = ap (chained op) (bound_none (place_of op) x chains within) ∙ chained_new op x chains (looser_than_more place (place_of op) chains w.0 looser) in
+    let joins = ap (chains_with op) (bound_none (place_of op) x chains within) ∙ chained_new op x chains (looser_than_more place (place_of op) chains w.0 looser) in
     let run = ap (ran (phases.Signs 0, with_chains frame frames chains)) v.2 ∙ operator_run frame frames chains (first ∷ chains) v.0 v.1 op x one joins in
     let rest = chain_taken ys y (x ∷ []) (op ∷ []) ops (place_of op) frame frames chains v.1 (All-tail AreTaken x (y ∷ ys) each) low (omega arith) refl v.5 in
     taken_behind frame frames chains (first ∷ chains) written v.1 place (place_of op) (nodes.Chain (x ∷ y ∷ ys) (op ∷ ops)) (nodes.Chain (x ∷ y ∷ ys) (op ∷ ops)) chains run w.0 refl rest

@@ -7,7 +7,7 @@ use Rattle.formula_parse.specs.declared.nodes.Node.{Node}
 use Rattle.formula_parse.specs.declared.reader.Reader.{Reader}
 use Rattle.formula_parse.specs.declared.tokens.Token.{Token}
 use Rattle.formula_parse.specs.Lexing.{token_at}
-use Rattle.formula_parse.specs.Reading.{Read, Answer, Onward, at_end, ended, begun_behind, is_too_deep, stepped, read_on, read_found, read_token, read_next, gap_len, followed, read_from, first_reader, read_text}
+use Rattle.formula_parse.specs.Reading.{Read, Answer, Onward, at_end, tree_at_end, begun_behind, is_too_deep, reader_behind, read_on, read_found, read_token, read_next, gap_len, answer_behind, read_from, first_reader, read_text}
 
 -- an answer that isn't that the text is too long
 abbrev IsOther : Result Node ParseFault → Type 0
@@ -42,13 +42,13 @@ on_is_other reader place text len (Some next) = by_depth (is_too_deep next.frame
 
 found_is_other : (reader : Reader) (place : ℕ) (text : List ℕ) (o : Option (Token × ℕ)) → IsOtherRead (read_found reader place text o)
 found_is_other reader place text None = syntax_is_other (place + begun_behind reader.phase text)
-found_is_other reader place text (Some found) = on_is_other reader place text found.1 (stepped reader found.0)
+found_is_other reader place text (Some found) = on_is_other reader place text found.1 (reader_behind reader found.0)
 
 token_is_other : (reader : Reader) (place : ℕ) (text : List ℕ) → IsOtherRead (read_token reader place text)
-token_is_other reader place [] = end_is_other reader place (ended reader.phase reader.frames)
+token_is_other reader place [] = end_is_other reader place (tree_at_end reader.phase reader.frames)
 token_is_other reader place (b ∷ bs) = found_is_other reader place (b ∷ bs) (token_at (b ∷ bs))
 
-followed_is_other : (fuel : ℕ) → ((reader : Reader) (place : ℕ) (text : List ℕ) → IsOther (read_from fuel reader place text)) → (read : Read) → IsOtherRead read → IsOther (followed (read_from fuel) read)
+followed_is_other : (fuel : ℕ) → ((reader : Reader) (place : ℕ) (text : List ℕ) → IsOther (read_from fuel reader place text)) → (read : Read) → IsOtherRead read → IsOther (answer_behind (read_from fuel) read)
 followed_is_other fuel onward (Answer answer) other = other
 followed_is_other fuel onward (Onward next behind rest) other = onward next behind rest
 

@@ -7,8 +7,8 @@ use Rattle.formula_parse.specs.declared.nodes.Node.{Node}
 use Rattle.formula_parse.specs.declared.reader.Reader.{Reader}
 use Rattle.formula_parse.specs.declared.parser.Read.{Read as Told}
 use Rattle.formula_parse.specs.declared.parser.Read.TheVariants.{Formula, Token}
-use Rattle.formula_parse.specs.Turns.{told}
-use Rattle.formula_parse.specs.Reading.{Answer, Onward, first_reader, followed, read_from, read_next, read_text}
+use Rattle.formula_parse.specs.Turns.{read_of}
+use Rattle.formula_parse.specs.Reading.{Answer, Onward, first_reader, answer_behind, read_from, read_next, read_text}
 
 -- reading begins behind the `=`
 pub begins : (text : List ℕ) (reader : Reader) → (nat_lt 0 (length text) && eqb (get_or text 0 0) 61) ≡ true → reader ≡ first_reader → read_text text ≡ read_from (length text - 0) reader 1 (drop 1 text)
@@ -42,7 +42,7 @@ begins_not (b ∷ rest) e = refused (eqb b 61) (second (length rest) (eqb b 61) 
 abbrev pub Reads : List ℕ → ℕ → Reader → ℕ → Type 0
 Reads text turns reader place = read_text text ≡ read_from (length text - turns) reader place (drop place text)
 
-one_turn : (text : List ℕ) (turns : ℕ) (reader : Reader) (place : ℕ) → turns < length text → Reads text turns reader place → read_text text ≡ followed (read_from (length text - (turns + 1))) (read_next reader place (drop place text))
+one_turn : (text : List ℕ) (turns : ℕ) (reader : Reader) (place : ℕ) → turns < length text → Reads text turns reader place → read_text text ≡ answer_behind (read_from (length text - (turns + 1))) (read_next reader place (drop place text))
 one_turn text turns reader place l r =
     let n : length text - turns ≡ suc (length text - (turns + 1)) = omega arith in
     r ∙ ap (λ fuel. read_from fuel reader place (drop place text)) n
@@ -50,11 +50,11 @@ one_turn text turns reader place l r =
 -- a turn that ends with an answer, and one behind which reading goes on
 pub turn_answers : (text : List ℕ) (turns : ℕ) (reader : Reader) (place : ℕ) (answer : Result Node ParseFault) → turns < length text → Reads text turns reader place → Answer answer ≡ read_next reader place (drop place text) → answer ≡ read_text text
 turn_answers text turns reader place answer l r e =
-    sym (one_turn text turns reader place l r ∙ ap (followed (read_from (length text - (turns + 1)))) (sym e))
+    sym (one_turn text turns reader place l r ∙ ap (answer_behind (read_from (length text - (turns + 1)))) (sym e))
 
 pub turn_goes_on : (text : List ℕ) (turns : ℕ) (reader next : Reader) (place behind : ℕ) → turns < length text → Reads text turns reader place → Onward next behind (drop behind text) ≡ read_next reader place (drop place text) → Reads text (turns + 1) next behind
 turn_goes_on text turns reader next place behind l r e =
-    one_turn text turns reader place l r ∙ ap (followed (read_from (length text - (turns + 1)))) (sym e)
+    one_turn text turns reader place l r ∙ ap (answer_behind (read_from (length text - (turns + 1)))) (sym e)
 
 -- after as many turns as there are bytes nothing is read any more
 pub turns_end : (text : List ℕ) (turns : ℕ) (reader : Reader) (place : ℕ) → length text ≤ turns → Reads text turns reader place → Err (faults.Syntax place) ≡ read_text text
@@ -68,11 +68,11 @@ turn_faults {R} text turns reader place fault l r (inl e) = let is : fault ≡ f
 turn_faults {R} text turns reader place fault l r (inr e) = inr (turn_answers text turns reader place (Err fault) l r e)
 
 -- a turn that reads the formula
-pub turn_ends : (text : List ℕ) (turns : ℕ) (reader : Reader) (place : ℕ) (read : Told) (root : Node) → turns < length text → Reads text turns reader place → (◌≡◌ {A = Result Told ParseFault} (Ok read) (Err faults.Memory)) ⊎ (told text (Ok read) ≡ read_next reader place (drop place text)) → read ≡ Formula root → Ok root ≡ read_text text
+pub turn_ends : (text : List ℕ) (turns : ℕ) (reader : Reader) (place : ℕ) (read : Told) (root : Node) → turns < length text → Reads text turns reader place → (◌≡◌ {A = Result Told ParseFault} (Ok read) (Err faults.Memory)) ⊎ (read_of text (Ok read) ≡ read_next reader place (drop place text)) → read ≡ Formula root → Ok root ≡ read_text text
 turn_ends text turns reader place read root l r (inl e) is = absurd (cc)
-turn_ends text turns reader place read root l r (inr e) is = turn_answers text turns reader place (Ok root) l r (sym (ap (λ x. told text (Ok x)) is) ∙ e)
+turn_ends text turns reader place read root l r (inr e) is = turn_answers text turns reader place (Ok root) l r (sym (ap (λ x. read_of text (Ok x)) is) ∙ e)
 
 -- a turn that reads a token
-pub turn_reads : (text : List ℕ) (turns : ℕ) (reader next : Reader) (place behind : ℕ) (read : Told) → turns < length text → Reads text turns reader place → (◌≡◌ {A = Result Told ParseFault} (Ok read) (Err faults.Memory)) ⊎ (told text (Ok read) ≡ read_next reader place (drop place text)) → read ≡ Token next behind → Reads text (turns + 1) next behind
+pub turn_reads : (text : List ℕ) (turns : ℕ) (reader next : Reader) (place behind : ℕ) (read : Told) → turns < length text → Reads text turns reader place → (◌≡◌ {A = Result Told ParseFault} (Ok read) (Err faults.Memory)) ⊎ (read_of text (Ok read) ≡ read_next reader place (drop place text)) → read ≡ Token next behind → Reads text (turns + 1) next behind
 turn_reads text turns reader next place behind read l r (inl e) is = absurd (cc)
-turn_reads text turns reader next place behind read l r (inr e) is = turn_goes_on text turns reader next place behind l r (sym (ap (λ x. told text (Ok x)) is) ∙ e)
+turn_reads text turns reader next place behind read l r (inr e) is = turn_goes_on text turns reader next place behind l r (sym (ap (λ x. read_of text (Ok x)) is) ∙ e)

@@ -13,7 +13,7 @@ use Rattle.formula_parse.specs.declared.reader.Phase.TheVariants as phases
 use Rattle.formula_parse.specs.declared.reader.Reader.{Reader}
 use Rattle.formula_parse.specs.declared.tokens.Token.{Token}
 use Rattle.formula_parse.specs.declared.tokens.Token.TheVariants as tokens
-use Rattle.formula_parse.specs.Reading.{Turn, minuses_in, after_operand, operand_turn, empty_call, start_turn, operator_turn, closing, close_turn, with_frame, with_argument, comma_turn, after_turn, finished, turn_at, stepped, is_wide_area, is_large_number}
+use Rattle.formula_parse.specs.Reading.{Turn, minuses_in, after_operand, operand_turn, empty_call, start_turn, operator_turn, closing, close_turn, with_frame, with_argument, comma_turn, after_turn, tree_of_chains, turn_at, reader_behind, is_wide_area, is_large_number}
 
 -- no more `-` than this
 abbrev IsUpTo : ℕ → Option Turn → Type 0
@@ -70,7 +70,7 @@ at_operator operand op (frame ∷ frames) = omega arith
 
 at_close : (operand : Node) (frames : List Frame) → IsUpTo 1 (close_turn operand frames)
 at_close operand [] = tt
-at_close operand (frame ∷ frames) = behind_operand 1 frame.minuses frames (closing frame.opened (finished operand frame.chains))
+at_close operand (frame ∷ frames) = behind_operand 1 frame.minuses frames (closing frame.opened (tree_of_chains operand frame.chains))
 
 at_argument : (minuses calls : ℕ) (frames : List Frame) (o : Option Opened) → IsUpTo 1 (option_map (λ what. (phases.Signs 0, with_frame what minuses calls frames)) o)
 at_argument minuses calls frames None = tt
@@ -78,7 +78,7 @@ at_argument minuses calls frames (Some what) = omega arith
 
 at_comma : (operand : Node) (frames : List Frame) → IsUpTo 1 (comma_turn operand frames)
 at_comma operand [] = tt
-at_comma operand (frame ∷ frames) = at_argument frame.minuses frame.calls frames (with_argument frame.opened (finished operand frame.chains))
+at_comma operand (frame ∷ frames) = at_argument frame.minuses frame.calls frames (with_argument frame.opened (tree_of_chains operand frame.chains))
 
 at_after : (operand : Node) (frames : List Frame) (token : Token) → IsUpTo 1 (after_turn operand frames token)
 at_after operand frames (tokens.Number n) = tt
@@ -99,8 +99,8 @@ at_turn (phases.Signs minuses) frames token = at_operand minuses frames token
 at_turn (phases.After operand) frames token = at_after operand frames token
 
 -- a token adds one `-` at most
-pub one_more : (reader next : Reader) (token : Token) → stepped reader token ≡ Some next → minuses_in next.phase ≤ minuses_in reader.phase + 1
-unfolding stepped
+pub one_more : (reader next : Reader) (token : Token) → reader_behind reader token ≡ Some next → minuses_in next.phase ≤ minuses_in reader.phase + 1
+unfolding reader_behind
 one_more reader next token e = by_turn (turn_at reader.phase reader.frames token) (at_turn reader.phase reader.frames token) e
   where
     by_turn : (o : Option Turn) → IsUpTo (minuses_in reader.phase + 1) o → option_map (λ turn. record { phase = turn.0; frames = turn.1; has_wide_area = reader.has_wide_area || is_wide_area token; has_large_number = reader.has_large_number || is_large_number token }) o ≡ Some next → minuses_in next.phase ≤ minuses_in reader.phase + 1

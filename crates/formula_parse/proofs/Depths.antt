@@ -13,7 +13,7 @@ use Rattle.formula_parse.specs.declared.tokens.Token.TheVariants as tokens
 use Rattle.formula_parse.specs.Faults.{IsUnlimitedFormula, IsTooDeep, IsOverOpen, open_behind}
 use Rattle.formula_parse.specs.Grammar.{IsWritten}
 use Rattle.formula_parse.specs.Lexing.{token_at}
-use Rattle.formula_parse.specs.Reading.{Turn, stepped, first_reader, awaits_operand, is_too_deep, calls_open}
+use Rattle.formula_parse.specs.Reading.{Turn, reader_behind, first_reader, awaits_operand, is_too_deep, calls_open}
 use Rattle.formula_parse.specs.Tokens.{IsSpelled, Writes, are_spaces, goes_on, goes_on_with}
 use Rattle.formula_parse.proofs.Completing.{closes, closed_behind, operand_closed, one_written, closes_end, closes_spell, gap_closes_spell}
 use Rattle.formula_parse.proofs.LexingLaws.{written_is_found}
@@ -91,11 +91,11 @@ full_is_safe (b ∷ bs) behind other f = head_is_safe b (bs ++ behind) (bs ++ ot
 read_front : (front gap piece behind : List ℕ) → front ++ (gap ++ (piece ++ behind)) ≡ (front ++ (gap ++ piece)) ++ behind
 read_front front gap piece behind = ap (λ x. front ++ x) (sym (append_assoc gap piece behind)) ∙ sym (append_assoc front (gap ++ piece) behind)
 
-run_to : (front rest : List ℕ) (ts : List Token) (last next : Reader) (token : Token) → Reads first_reader front rest ts last → stepped last token ≡ Some next → ran first_turn (ts ++ token ∷ []) ≡ Some (turn_of next)
+run_to : (front rest : List ℕ) (ts : List Token) (last next : Reader) (token : Token) → Reads first_reader front rest ts last → reader_behind last token ≡ Some next → ran first_turn (ts ++ token ∷ []) ≡ Some (turn_of next)
 run_to front rest ts last next token r s = ran_on ts (token ∷ []) first_turn (turn_of last) (reads_run ts first_reader front rest last r) ∙ ap (option_and_then (λ x. Some x)) ((step_tells last token next s).turn)
 
 -- where reading ends too deep, the text is too deep
-deep_parts : (front gap piece behind : List ℕ) (ts : List Token) (last next : Reader) (token : Token) → Reads first_reader front (gap ++ (piece ++ behind)) ts last → are_spaces gap ≡ true → Writes piece token → stepped last token ≡ Some next → is_too_deep next.frames ≡ true → Continued (ts ++ token ∷ []) → IsTooDeep (61 ∷ (front ++ (gap ++ (piece ++ behind))))
+deep_parts : (front gap piece behind : List ℕ) (ts : List Token) (last next : Reader) (token : Token) → Reads first_reader front (gap ++ (piece ++ behind)) ts last → are_spaces gap ≡ true → Writes piece token → reader_behind last token ≡ Some next → is_too_deep next.frames ≡ true → Continued (ts ++ token ∷ []) → IsTooDeep (61 ∷ (front ++ (gap ++ (piece ++ behind))))
 deep_parts front gap piece behind ts last next token r g w s d goes =
     let read = front ++ (gap ++ piece) in
     let tail = 32 ∷ goes.tail in
@@ -197,10 +197,10 @@ first_alone pre reader f fs [] [] run shallow apart on s over = not_both on
 first_alone pre reader f fs [] (b ∷ other) run shallow apart on s over =
     shallow_is_not_over pre (turn_of reader) run shallow (not_by_it pre f b on (subst (λ x. IsOverOpen (pre ++ f ∷ x)) (nothing_spelled fs s) over))
 
-one_more_run : (pre : List Token) (reader next : Reader) (t : Token) → ran first_turn pre ≡ Some (turn_of reader) → stepped reader t ≡ Some next → ran first_turn (pre ++ t ∷ []) ≡ Some (turn_of next)
+one_more_run : (pre : List Token) (reader next : Reader) (t : Token) → ran first_turn pre ≡ Some (turn_of reader) → reader_behind reader t ≡ Some next → ran first_turn (pre ++ t ∷ []) ≡ Some (turn_of next)
 one_more_run pre reader next t h s = ran_on pre (t ∷ []) first_turn (turn_of reader) h ∙ ap (option_and_then (λ x. Some x)) ((step_tells reader t next s).turn)
 
-rest_runs : (reader next : Reader) (t : Token) (us : List Token) (end : Turn) → stepped reader t ≡ Some next → ran (turn_of reader) (t ∷ us) ≡ Some end → ran (turn_of next) us ≡ Some end
+rest_runs : (reader next : Reader) (t : Token) (us : List Token) (end : Turn) → reader_behind reader t ≡ Some next → ran (turn_of reader) (t ∷ us) ≡ Some end → ran (turn_of next) us ≡ Some end
 rest_runs reader next t us end s h = sym (ap (option_and_then (λ x. ran x us)) ((step_tells reader t next s).turn)) ∙ h
 
 spelled_within : (ts : List Token) → Bounded ts

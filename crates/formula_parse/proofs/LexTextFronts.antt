@@ -4,7 +4,7 @@ use Rattle.std.proofs.lemmas.Bool.{cases_Bool, cond-true, cond-false, or_parts, 
 use Rattle.std.proofs.lemmas.List.Folds.{list_any-append}
 use Rattle.std.specs.Char.{is_ascii_control}
 use Rattle.std.specs.List.{list_any, position_or_len}
-use Rattle.cell_values.specs.Word.{doubled, byte_within}
+use Rattle.cell_values.specs.Word.{with_doubled_quotes, byte_within}
 use Rattle.formula_parse.specs.declared.tokens.Token.{Token}
 use Rattle.formula_parse.specs.declared.tokens.Token.TheVariants as tokens
 use Rattle.formula_parse.specs.Lexing.{content_at, text_found}
@@ -33,7 +33,7 @@ clean_within (c ∷ cs) = ⊎_elim
 -- a text without a closing `"` before a control character, up to that character
 record Opens (rest : List ℕ) : Type 0 where
   content : List ℕ
-  spelled : take (clean rest) rest ≡ doubled content
+  spelled : take (clean rest) rest ≡ with_doubled_quotes content
   fine : list_any is_ascii_control content ≡ false
 
 -- a control character ends an open text
@@ -41,8 +41,8 @@ opens_stopped : (c : ℕ) (cs : List ℕ) → is_ascii_control c ≡ true → Op
 opens_stopped c cs y = record { content = []; spelled = ap (λ n. take n (c ∷ cs)) (clean_stops c cs y); fine = refl }
 
 -- a byte that is no `"` stays one
-doubled_other : (c : ℕ) (content : List ℕ) → eqb c 34 ≡ false → doubled (c ∷ content) ≡ c ∷ doubled content
-doubled_other c content e = ap (λ b. cond b (34 ∷ 34 ∷ []) (c ∷ []) ++ doubled content) e
+doubled_other : (c : ℕ) (content : List ℕ) → eqb c 34 ≡ false → with_doubled_quotes (c ∷ content) ≡ c ∷ with_doubled_quotes content
+doubled_other c content e = ap (λ b. cond b (34 ∷ 34 ∷ []) (c ∷ []) ++ with_doubled_quotes content) e
 
 -- a byte that is neither goes on with an open text
 opens_other : (c : ℕ) (cs : List ℕ) → is_ascii_control c ≡ false → eqb c 34 ≡ false → Opens cs → Opens (c ∷ cs)
@@ -139,11 +139,11 @@ both_fine : (xs ys : List ℕ) → list_any is_ascii_control xs ≡ false → li
 both_fine xs ys e f = list_any-append is_ascii_control xs ys ∙ or_from _ _ e f
 
 -- nor does a content between quotes
-doubled_fine : (content : List ℕ) → list_any is_ascii_control content ≡ false → list_any is_ascii_control (doubled content) ≡ false
+doubled_fine : (content : List ℕ) → list_any is_ascii_control content ≡ false → list_any is_ascii_control (with_doubled_quotes content) ≡ false
 doubled_fine [] h = refl
 doubled_fine (c ∷ cs) h =
     let p = or_parts (is_ascii_control c) (list_any is_ascii_control cs) h in
-    both_fine (byte_within c) (doubled cs) (byte_fine c (eqb c 34) p.0) (doubled_fine cs p.1)
+    both_fine (byte_within c) (with_doubled_quotes cs) (byte_fine c (eqb c 34) p.0) (doubled_fine cs p.1)
 
 -- nor does the front of what has none
 front_fine : (xs ys : List ℕ) → list_any is_ascii_control (xs ++ ys) ≡ false → list_any is_ascii_control xs ≡ false
@@ -152,7 +152,7 @@ front_fine xs ys h = (or_parts _ (list_any is_ascii_control ys) (sym (list_any-a
 -- no text goes on with more
 pub text_most : (rest more content : List ℕ) (k : ℕ) → k ≤ length rest → Writes (34 ∷ (take k rest ++ more)) (tokens.Text content) → suc k ≤ clean rest + 1
 text_most rest more content k h w =
-    let same : take k rest ++ more ≡ doubled content ++ 34 ∷ [] = let e = w.0 in cc in
-    let fine : list_any is_ascii_control (take k rest ++ more) ≡ false = ap (list_any is_ascii_control) same ∙ both_fine (doubled content) (34 ∷ []) (doubled_fine content w.1) refl in
+    let same : take k rest ++ more ≡ with_doubled_quotes content ++ 34 ∷ [] = let e = w.0 in cc in
+    let fine : list_any is_ascii_control (take k rest ++ more) ≡ false = ap (list_any is_ascii_control) same ∙ both_fine (with_doubled_quotes content) (34 ∷ []) (doubled_fine content w.1) refl in
     let most = clean_most rest k h (front_fine (take k rest) more fine) in
     omega arith

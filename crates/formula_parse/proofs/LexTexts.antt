@@ -5,7 +5,7 @@ use Rattle.std.proofs.lemmas.List.{length-append}
 use Rattle.std.proofs.lemmas.Option.{same_Some}
 use Rattle.std.specs.Char.{is_ascii_control}
 use Rattle.std.specs.List.{list_any}
-use Rattle.cell_values.specs.Word.{doubled, quoted}
+use Rattle.cell_values.specs.Word.{with_doubled_quotes, quotation_of}
 use Rattle.formula_parse.specs.declared.tokens.Token.{Token}
 use Rattle.formula_parse.specs.declared.tokens.Token.TheVariants as tokens
 use Rattle.formula_parse.specs.Lexing.{token_at, content_at, text_found}
@@ -14,8 +14,8 @@ use Rattle.formula_parse.proofs.LexFirst.{Found, found_as, first_passes, chosen,
 -- a closing `"` behind a content, with its length
 pub record Closes (text content : List ℕ) (n : ℕ) : Type 0 where
   pub rest : List ℕ
-  pub whole : text ≡ doubled content ++ 34 ∷ rest
-  pub count : n ≡ length (doubled content) + 1
+  pub whole : text ≡ with_doubled_quotes content ++ 34 ∷ rest
+  pub count : n ≡ length (with_doubled_quotes content) + 1
   pub stops : first_passes (λ b. eqb b 34) rest ≡ false
 
 -- the same content and length under other names
@@ -40,8 +40,8 @@ closes_doubled : (cs content : List ℕ) (n : ℕ) → Closes cs content n → C
 closes_doubled cs content n f = record { rest = f.rest; whole = ap (λ x. 34 ∷ 34 ∷ x) f.whole; count = omega (arith, f.count); stops = f.stops }
 
 -- a byte that is no `"` stays one
-doubled_other : (c : ℕ) (content : List ℕ) → eqb c 34 ≡ false → doubled (c ∷ content) ≡ c ∷ doubled content
-doubled_other c content e = ap (λ b. cond b (34 ∷ 34 ∷ []) (c ∷ []) ++ doubled content) e
+doubled_other : (c : ℕ) (content : List ℕ) → eqb c 34 ≡ false → with_doubled_quotes (c ∷ content) ≡ c ∷ with_doubled_quotes content
+doubled_other c content e = ap (λ b. cond b (34 ∷ 34 ∷ []) (c ∷ []) ++ with_doubled_quotes content) e
 
 -- another byte and what closes behind it
 closes_other : (c : ℕ) (cs content : List ℕ) (n : ℕ) → eqb c 34 ≡ false → Closes cs content n → Closes (c ∷ cs) (c ∷ content) (n + 1)
@@ -86,17 +86,17 @@ content_other c [] e = cond-false _ _ _ e
 content_other c (d ∷ cs) e = cond-false _ _ _ e
 
 -- one byte more of the content, doubled where it is a `"`
-content_step : (c : ℕ) (cs rest : List ℕ) (b : Bool) → eqb c 34 ≡ b → content_at (doubled cs ++ 34 ∷ rest) ≡ Some (cs, length (doubled cs) + 1) → content_at ((cond b (34 ∷ 34 ∷ []) (c ∷ []) ++ doubled cs) ++ 34 ∷ rest) ≡ Some (c ∷ cs, length (cond b (34 ∷ 34 ∷ []) (c ∷ []) ++ doubled cs) + 1)
+content_step : (c : ℕ) (cs rest : List ℕ) (b : Bool) → eqb c 34 ≡ b → content_at (with_doubled_quotes cs ++ 34 ∷ rest) ≡ Some (cs, length (with_doubled_quotes cs) + 1) → content_at ((cond b (34 ∷ 34 ∷ []) (c ∷ []) ++ with_doubled_quotes cs) ++ 34 ∷ rest) ≡ Some (c ∷ cs, length (cond b (34 ∷ 34 ∷ []) (c ∷ []) ++ with_doubled_quotes cs) + 1)
 content_step c cs rest true e h =
     let same : 34 ≡ c = sym (quote_is c e) in
-    let count : length (doubled cs) + 1 + 2 ≡ length (34 ∷ 34 ∷ doubled cs) + 1 = omega arith in
-    ap (option_map (λ found. (34 ∷ found.0, found.1 + 2))) h ∙ (ap (λ n. Some (34 ∷ cs, n)) count ∙ ap (λ b. Some (b ∷ cs, length (34 ∷ 34 ∷ doubled cs) + 1)) same)
+    let count : length (with_doubled_quotes cs) + 1 + 2 ≡ length (34 ∷ 34 ∷ with_doubled_quotes cs) + 1 = omega arith in
+    ap (option_map (λ found. (34 ∷ found.0, found.1 + 2))) h ∙ (ap (λ n. Some (34 ∷ cs, n)) count ∙ ap (λ b. Some (b ∷ cs, length (34 ∷ 34 ∷ with_doubled_quotes cs) + 1)) same)
 content_step c cs rest false e h =
-    let count : length (doubled cs) + 1 + 1 ≡ length (c ∷ doubled cs) + 1 = omega arith in
-    content_other c (doubled cs ++ 34 ∷ rest) e ∙ (ap (option_map (λ found. (c ∷ found.0, found.1 + 1))) h ∙ ap (λ n. Some (c ∷ cs, n)) count)
+    let count : length (with_doubled_quotes cs) + 1 + 1 ≡ length (c ∷ with_doubled_quotes cs) + 1 = omega arith in
+    content_other c (with_doubled_quotes cs ++ 34 ∷ rest) e ∙ (ap (option_map (λ found. (c ∷ found.0, found.1 + 1))) h ∙ ap (λ n. Some (c ∷ cs, n)) count)
 
 -- the content that is closed is found
-pub content_written : (content rest : List ℕ) → first_passes (λ b. eqb b 34) rest ≡ false → content_at (doubled content ++ 34 ∷ rest) ≡ Some (content, length (doubled content) + 1)
+pub content_written : (content rest : List ℕ) → first_passes (λ b. eqb b 34) rest ≡ false → content_at (with_doubled_quotes content ++ 34 ∷ rest) ≡ Some (content, length (with_doubled_quotes content) + 1)
 content_written [] rest s = content_ends rest s
 content_written (c ∷ cs) rest s = content_step c cs rest (eqb c 34) refl (content_written cs rest s)
 
@@ -114,21 +114,21 @@ text_is_written rest token n h =
     let p = text_parts (content_at rest) token n (sym (at_quote rest) ∙ h) in
     let f = content_found rest p.0 p.1 in
     found_as (34 ∷ rest) (tokens.Text p.0.0) token (p.0.1 + 1) n p.3 (record {
-      piece = quoted p.0.0;
+      piece = quotation_of p.0.0;
       rest = f.rest;
-      whole = ap (λ x. 34 ∷ x) (f.whole ∙ sym (append_assoc (doubled p.0.0) (34 ∷ []) f.rest));
-      count = omega (arith, f.count, length-append (doubled p.0.0) (34 ∷ []));
+      whole = ap (λ x. 34 ∷ x) (f.whole ∙ sym (append_assoc (with_doubled_quotes p.0.0) (34 ∷ []) f.rest));
+      count = omega (arith, f.count, length-append (with_doubled_quotes p.0.0) (34 ∷ []));
       some = omega arith;
       writes = (refl, p.2);
       stops = f.stops;
     })
 
 -- the text that is written is found
-pub text_written : (content rest : List ℕ) → list_any is_ascii_control content ≡ false → first_passes (λ b. eqb b 34) rest ≡ false → token_at (quoted content ++ rest) ≡ Some (tokens.Text content, length (quoted content))
+pub text_written : (content rest : List ℕ) → list_any is_ascii_control content ≡ false → first_passes (λ b. eqb b 34) rest ≡ false → token_at (quotation_of content ++ rest) ≡ Some (tokens.Text content, length (quotation_of content))
 text_written content rest clean s =
-    let whole : (doubled content ++ 34 ∷ []) ++ rest ≡ doubled content ++ 34 ∷ rest = append_assoc (doubled content) (34 ∷ []) rest in
-    let count : length (doubled content) + 1 + 1 ≡ length (quoted content) = omega (arith, length-append (doubled content) (34 ∷ [])) in
-    at_quote ((doubled content ++ 34 ∷ []) ++ rest)
+    let whole : (with_doubled_quotes content ++ 34 ∷ []) ++ rest ≡ with_doubled_quotes content ++ 34 ∷ rest = append_assoc (with_doubled_quotes content) (34 ∷ []) rest in
+    let count : length (with_doubled_quotes content) + 1 + 1 ≡ length (quotation_of content) = omega (arith, length-append (with_doubled_quotes content) (34 ∷ [])) in
+    at_quote ((with_doubled_quotes content ++ 34 ∷ []) ++ rest)
     ∙ (ap (λ x. text_found (content_at x)) whole
     ∙ (ap text_found (content_written content rest s)
     ∙ (cond-false _ _ _ clean ∙ ap (λ n. Some (tokens.Text content, n)) count)))

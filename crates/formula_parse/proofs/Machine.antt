@@ -5,7 +5,7 @@ use Rattle.formula_parse.specs.declared.reader.Opened.TheVariants as opened
 use Rattle.formula_parse.specs.declared.reader.Phase.TheVariants as phases
 use Rattle.formula_parse.specs.declared.tokens.Token.{Token}
 use Rattle.formula_parse.specs.declared.tokens.Token.TheVariants as tokens
-use Rattle.formula_parse.specs.Reading.{Turn, turn_at, ended}
+use Rattle.formula_parse.specs.Reading.{Turn, turn_at, tree_at_end}
 
 -- the turn behind the `=` of a formula
 abbrev pub first_turn : Turn
@@ -18,7 +18,7 @@ ran turn (token ∷ tokens) = option_and_then (λ next. ran next tokens) (turn_a
 
 -- the tree of tokens that end behind a turn
 abbrev pub ended_behind : Turn → Option Node
-ended_behind turn = ended turn.0 turn.1
+ended_behind turn = tree_at_end turn.0 turn.1
 
 -- whether a token is an operand by itself, or begins a call
 abbrev pub is_operand : Token → Bool

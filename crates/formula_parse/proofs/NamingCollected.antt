@@ -14,7 +14,7 @@ use Rattle.formula_parse.specs.declared.operators.Operator.TheVariants as operat
 use Rattle.formula_parse.specs.declared.tokens.Token.{Token}
 use Rattle.formula_parse.specs.declared.tokens.Token.TheVariants as tokens
 use Rattle.formula_parse.specs.Grammar.{Written, IsWritten, IsSigned, IsEnclosed, AreSigns, AreArguments, IsChain, IsChainAt, place_of}
-use Rattle.formula_parse.specs.Tree.{chained}
+use Rattle.formula_parse.specs.Tree.{concat}
 use Rattle.formula_parse.proofs.NodeLaws.{node_induction, number_is_written, text_is_written, error_is_written, boolean_is_written, reference_is_written, area_is_written, call_is_written, parentheses_is_written, negation_is_written, chain_is_written}
 
 -- f gives nothing for a token that is no operand and no call
@@ -32,10 +32,10 @@ pub record Follows (A : Type 0) (f : Token → List A) (F : Node → List A) : T
   pub boolean : (b : Bool) → F (nodes.Boolean b) ≡ f (tokens.Boolean b)
   pub reference : (r : RefText) → F (nodes.Reference r) ≡ f (tokens.Reference r)
   pub area : (a b : RefText) → F (nodes.Area a b) ≡ f (tokens.Area a b)
-  pub call : (name : Name) (arguments : List Node) → F (nodes.Call name arguments) ≡ f (tokens.Call name) ++ chained (map F arguments)
+  pub call : (name : Name) (arguments : List Node) → F (nodes.Call name arguments) ≡ f (tokens.Call name) ++ concat (map F arguments)
   pub parentheses : (inner : Node) → F (nodes.Parentheses inner) ≡ F inner
   pub negation : (count : ℕ) (operand : Node) → F (nodes.Negation count operand) ≡ F operand
-  pub chain : (operands : List Node) (ops : List Operator) → F (nodes.Chain operands ops) ≡ chained (map F operands)
+  pub chain : (operands : List Node) (ops : List Operator) → F (nodes.Chain operands ops) ≡ concat (map F operands)
 
 module _ (A : Type 0) (f : Token → List A) (F : Node → List A) (none : GivesNothing A f) (follows : Follows A f F) where
   -- what is collected over a tree is collected over its tokens
@@ -75,23 +75,23 @@ module _ (A : Type 0) (f : Token → List A) (F : Node → List A) (none : Gives
       ap (λ zs. zs ++ ys) left ∙ ap (λ zs. flat_map f front ++ zs) (right ∙ sym (nothing_before token rest e)) ∙ sym (ap (flat_map f) is ∙ flat_map-append f front (token ∷ rest))
 
   -- arguments
-  arguments_give : (xs : List Node) (inner : List Token) → All Gives xs → AreArguments (map IsWritten xs) inner → chained (map F xs) ≡ flat_map f inner
+  arguments_give : (xs : List Node) (inner : List Token) → All Gives xs → AreArguments (map IsWritten xs) inner → concat (map F xs) ≡ flat_map f inner
   arguments_give [] inner all h = sym (ap (flat_map f) h)
   arguments_give (x ∷ []) inner all h = append-nil (F x) ∙ All-head Gives x [] all 0 inner h
   arguments_give (x ∷ y ∷ xs) inner all h =
-      joined_gives h.0 h.1 inner tokens.Comma (F x) (chained (map F (y ∷ xs))) none.comma h.2 (All-head Gives x (y ∷ xs) all 0 h.0 h.3) (arguments_give (y ∷ xs) h.1 (All-tail Gives x (y ∷ xs) all) h.4)
+      joined_gives h.0 h.1 inner tokens.Comma (F x) (concat (map F (y ∷ xs))) none.comma h.2 (All-head Gives x (y ∷ xs) all 0 h.0 h.3) (arguments_give (y ∷ xs) h.1 (All-tail Gives x (y ∷ xs) all) h.4)
 
   -- the operands of a chain
-  chain_gives : (place : ℕ) (xs : List Node) (ops : List Operator) (written : List Token) → All Gives xs → IsChain place (map IsWritten xs) ops written → chained (map F xs) ≡ flat_map f written
+  chain_gives : (place : ℕ) (xs : List Node) (ops : List Operator) (written : List Token) → All Gives xs → IsChain place (map IsWritten xs) ops written → concat (map F xs) ≡ flat_map f written
   chain_gives place [] ops written all h = absurd h
   chain_gives place (x ∷ []) [] written all h = append-nil (F x) ∙ All-head Gives x [] all (suc place) written h
   chain_gives place (x ∷ []) (op ∷ ops) written all h = absurd h
   chain_gives place (x ∷ y ∷ xs) [] written all h = absurd h
   chain_gives place (x ∷ y ∷ xs) (op ∷ ops) written all h =
-      joined_gives h.0 h.1 written (tokens.Operator op) (F x) (chained (map F (y ∷ xs))) (none.operator op) h.2 (All-head Gives x (y ∷ xs) all (suc place) h.0 h.3) (chain_gives place (y ∷ xs) ops h.1 (All-tail Gives x (y ∷ xs) all) h.5)
+      joined_gives h.0 h.1 written (tokens.Operator op) (F x) (concat (map F (y ∷ xs))) (none.operator op) h.2 (All-head Gives x (y ∷ xs) all (suc place) h.0 h.3) (chain_gives place (y ∷ xs) ops h.1 (All-tail Gives x (y ∷ xs) all) h.5)
 
   -- a chain where it stands
-  chain_at_gives : (place : ℕ) (xs : List Node) (ops : List Operator) (written : List Token) → All Gives xs → IsChainAt place (map IsWritten xs) ops written → chained (map F xs) ≡ flat_map f written
+  chain_at_gives : (place : ℕ) (xs : List Node) (ops : List Operator) (written : List Token) → All Gives xs → IsChainAt place (map IsWritten xs) ops written → concat (map F xs) ≡ flat_map f written
   chain_at_gives place xs [] written all h = absurd h
   chain_at_gives place xs (op ∷ ops) written all h = chain_gives (place_of op) xs (op ∷ ops) written all h.1
 

@@ -11,7 +11,7 @@ use Rattle.formula_parse.specs.declared.nodes.Node.{Node}
 use Rattle.formula_parse.specs.declared.reader.Reader.{Reader}
 use Rattle.formula_parse.specs.declared.tokens.Token.{Token}
 use Rattle.formula_parse.specs.Lexing.{token_at}
-use Rattle.formula_parse.specs.Reading.{Turn, Answer, Onward, turn_at, stepped, is_too_deep, ended, at_end, begun_behind, gap_len, read_from, read_token, read_found, read_on, followed}
+use Rattle.formula_parse.specs.Reading.{Turn, Answer, Onward, turn_at, reader_behind, is_too_deep, tree_at_end, at_end, begun_behind, gap_len, read_from, read_token, read_found, read_on, answer_behind}
 use Rattle.formula_parse.specs.Tokens.{Writes, are_spaces, goes_on_with}
 use Rattle.formula_parse.proofs.LexingLaws.{found_is_written}
 use Rattle.formula_parse.proofs.TokenReads.{Reads, is_full}
@@ -23,7 +23,7 @@ IsStuck last text = (other : Token) (n : ℕ) → token_at text ≡ Some (other,
 -- the text is spaces, and what its end gives is the answer
 pub record EndsWhole (last : Reader) (place : ℕ) (rest : List ℕ) (answer : Result Node ParseFault) : Type 0 where
   pub spaces : are_spaces rest ≡ true
-  pub gives : answer ≡ at_end last (place + length rest) (ended last.phase last.frames)
+  pub gives : answer ≡ at_end last (place + length rest) (tree_at_end last.phase last.frames)
 
 -- what stands behind spaces can't stand there
 pub record EndsStuck (last : Reader) (place : ℕ) (rest : List ℕ) (answer : Result Node ParseFault) : Type 0 where
@@ -46,7 +46,7 @@ pub record EndsDeep (last : Reader) (rest : List ℕ) (answer : Result Node Pars
   pub spaces : are_spaces gap ≡ true
   pub writes : Writes piece token
   pub apart : goes_on_with token behind ≡ false
-  pub steps : stepped last token ≡ Some next
+  pub steps : reader_behind last token ≡ Some next
   pub deep : is_too_deep next.frames ≡ true
   pub gives : answer ≡ Err faults.TooDeep
 
@@ -82,12 +82,12 @@ none_mapped f None h = refl
 none_mapped f (Some x) h = cc
 
 -- a token that can't stand behind the reader
-refused_turn : (last : Reader) (token : Token) → stepped last token ≡ None → turn_at last.phase last.frames token ≡ None
-unfolding stepped
+refused_turn : (last : Reader) (token : Token) → reader_behind last token ≡ None → turn_at last.phase last.frames token ≡ None
+unfolding reader_behind
 refused_turn last token h = none_mapped _ (turn_at last.phase last.frames token) h
 
 -- reading on behind one token
-one_more : (reader next : Reader) (place : ℕ) (text gap piece behind : List ℕ) (token : Token) (answer : Result Node ParseFault) → text ≡ gap ++ (piece ++ behind) → are_spaces gap ≡ true → Writes piece token → goes_on_with token behind ≡ false → stepped reader token ≡ Some next → is_too_deep next.frames ≡ false → Outcome next (place + length gap + length piece) behind answer → Outcome reader place text answer
+one_more : (reader next : Reader) (place : ℕ) (text gap piece behind : List ℕ) (token : Token) (answer : Result Node ParseFault) → text ≡ gap ++ (piece ++ behind) → are_spaces gap ≡ true → Writes piece token → goes_on_with token behind ≡ false → reader_behind reader token ≡ Some next → is_too_deep next.frames ≡ false → Outcome next (place + length gap + length piece) behind answer → Outcome reader place text answer
 one_more reader next place text gap piece behind token answer at spaces writes apart steps shallow more = record {
   front = gap ++ (piece ++ more.front);
   rest = more.rest;
@@ -125,7 +125,7 @@ shorter : (fuel n : ℕ) (gap stop : List ℕ) → length (gap ++ stop) < suc fu
 shorter fuel n gap stop h z w = omega (arith, h, z, w, length-append gap stop, length-drop n stop)
 
 -- the same behind a token, by its depth
-outcome_deep : (fuel : ℕ) → ReadsWith fuel → (reader next : Reader) (place : ℕ) (gap stop : List ℕ) → length (gap ++ stop) < suc fuel → are_spaces gap ≡ true → (token : Token) (n : ℕ) → token_at stop ≡ Some (token, n) → stepped reader token ≡ Some next → (deep : Bool) → is_too_deep next.frames ≡ deep → Outcome reader place (gap ++ stop) (followed (read_from fuel) (cond deep (Answer (Err faults.TooDeep)) (Onward next (place + length gap + n) (drop n stop))))
+outcome_deep : (fuel : ℕ) → ReadsWith fuel → (reader next : Reader) (place : ℕ) (gap stop : List ℕ) → length (gap ++ stop) < suc fuel → are_spaces gap ≡ true → (token : Token) (n : ℕ) → token_at stop ≡ Some (token, n) → reader_behind reader token ≡ Some next → (deep : Bool) → is_too_deep next.frames ≡ deep → Outcome reader place (gap ++ stop) (answer_behind (read_from fuel) (cond deep (Answer (Err faults.TooDeep)) (Onward next (place + length gap + n) (drop n stop))))
 outcome_deep fuel ih reader next place gap stop h s token n e m true d =
     let found = found_is_written stop token n e in
     at_once reader place (gap ++ stop) _ (inr (inr (record {
@@ -163,7 +163,7 @@ one_found : (a b : Token × ℕ) → Some a ≡ Some b → a.0 ≡ b.0
 one_found a b h = ap (λ x. x.0) (same_Some a b h)
 
 -- the same with what the found token makes of the reader
-outcome_on : (fuel : ℕ) → ReadsWith fuel → (reader : Reader) (place : ℕ) (gap stop : List ℕ) → length (gap ++ stop) < suc fuel → are_spaces gap ≡ true → is_full stop ≡ true → (token : Token) (n : ℕ) → token_at stop ≡ Some (token, n) → (made : Option Reader) → stepped reader token ≡ made → Outcome reader place (gap ++ stop) (followed (read_from fuel) (read_on reader (place + length gap) stop n made))
+outcome_on : (fuel : ℕ) → ReadsWith fuel → (reader : Reader) (place : ℕ) (gap stop : List ℕ) → length (gap ++ stop) < suc fuel → are_spaces gap ≡ true → is_full stop ≡ true → (token : Token) (n : ℕ) → token_at stop ≡ Some (token, n) → (made : Option Reader) → reader_behind reader token ≡ made → Outcome reader place (gap ++ stop) (answer_behind (read_from fuel) (read_on reader (place + length gap) stop n made))
 outcome_on fuel ih reader place gap stop h s f token n e None m = outcome_stuck reader place gap stop s f (λ other k o. subst (λ t. turn_at reader.phase reader.frames t ≡ None) (one_found (token, n) (other, k) (sym e ∙ o)) (refused_turn reader token m))
 outcome_on fuel ih reader place gap stop h s f token n e (Some next) m = outcome_deep fuel ih reader next place gap stop h s token n e m (is_too_deep next.frames) refl
 
@@ -171,15 +171,15 @@ not_found : (x : Token × ℕ) → None ≡ Some x → ⊥
 not_found x h = cc
 
 -- the same with what is found there
-outcome_found : (fuel : ℕ) → ReadsWith fuel → (reader : Reader) (place : ℕ) (gap stop : List ℕ) → length (gap ++ stop) < suc fuel → are_spaces gap ≡ true → is_full stop ≡ true → (found : Option (Token × ℕ)) → token_at stop ≡ found → Outcome reader place (gap ++ stop) (followed (read_from fuel) (read_found reader (place + length gap) stop found))
+outcome_found : (fuel : ℕ) → ReadsWith fuel → (reader : Reader) (place : ℕ) (gap stop : List ℕ) → length (gap ++ stop) < suc fuel → are_spaces gap ≡ true → is_full stop ≡ true → (found : Option (Token × ℕ)) → token_at stop ≡ found → Outcome reader place (gap ++ stop) (answer_behind (read_from fuel) (read_found reader (place + length gap) stop found))
 outcome_found fuel ih reader place gap stop h s f None e = outcome_stuck reader place gap stop s f (λ other k o. absurd (not_found (other, k) (sym e ∙ o)))
-outcome_found fuel ih reader place gap stop h s f (Some found) e = outcome_on fuel ih reader place gap stop h s f found.0 found.1 e (stepped reader found.0) refl
+outcome_found fuel ih reader place gap stop h s f (Some found) e = outcome_on fuel ih reader place gap stop h s f found.0 found.1 e (reader_behind reader found.0) refl
 
 -- the same behind spaces
-outcome_token : (fuel : ℕ) → ReadsWith fuel → (reader : Reader) (place : ℕ) (gap stop : List ℕ) → length (gap ++ stop) < suc fuel → are_spaces gap ≡ true → ((b : ℕ) (bs : List ℕ) → stop ≡ b ∷ bs → is_full (b ∷ bs) ≡ true) → Outcome reader place (gap ++ stop) (followed (read_from fuel) (read_token reader (place + length gap) stop))
+outcome_token : (fuel : ℕ) → ReadsWith fuel → (reader : Reader) (place : ℕ) (gap stop : List ℕ) → length (gap ++ stop) < suc fuel → are_spaces gap ≡ true → ((b : ℕ) (bs : List ℕ) → stop ≡ b ∷ bs → is_full (b ∷ bs) ≡ true) → Outcome reader place (gap ++ stop) (answer_behind (read_from fuel) (read_token reader (place + length gap) stop))
 outcome_token fuel ih reader place gap [] h s f = at_once reader place (gap ++ []) _ (inl (record {
   spaces = subst (λ g. are_spaces g ≡ true) (sym (append-nil gap)) s;
-  gives = ap (λ g. at_end reader (place + length g) (ended reader.phase reader.frames)) (sym (append-nil gap));
+  gives = ap (λ g. at_end reader (place + length g) (tree_at_end reader.phase reader.frames)) (sym (append-nil gap));
 }))
 outcome_token fuel ih reader place gap (b ∷ bs) h s f = outcome_found fuel ih reader place gap (b ∷ bs) h s (f b bs refl) (token_at (b ∷ bs)) refl
 
@@ -190,5 +190,5 @@ outcome_from (suc fuel) reader place text h =
     let gap = take_while (λ b. b == 32) text in
     let stop = drop (gap_len text) text in
     let parts : text ≡ gap ++ stop = front_and_rest (λ b. b == 32) text in
-    subst (λ t. Outcome reader place t (followed (read_from fuel) (read_token reader (place + length gap) stop))) (sym parts)
+    subst (λ t. Outcome reader place t (answer_behind (read_from fuel) (read_token reader (place + length gap) stop))) (sym parts)
     (outcome_token fuel (outcome_from fuel) reader place gap stop (subst (λ t. length t < suc fuel) parts h) (gap_spaces text) (full_behind text))

@@ -5,7 +5,7 @@ use Rattle.formula_parse.specs.declared.faults.ParseFault.{ParseFault}
 use Rattle.formula_parse.specs.declared.faults.ParseFault.TheVariants as faults
 use Rattle.formula_parse.specs.declared.nodes.Node.{Node}
 use Rattle.formula_parse.specs.Faults.{IsTooDeep, IsShort, IsFormula, IsSyntaxFault, IsRangeFault, IsNumberFault}
-use Rattle.formula_parse.specs.Reading.{read_text, is_too_long, parsed, formula_of}
+use Rattle.formula_parse.specs.Reading.{read_text, is_too_long, parse_result, formula_of}
 use Rattle.formula_parse.proofs.Causes.{Cause, cause_of, fault_cause, parsed_short, formed_is_formula, formula_back, syntax_cause, range_cause, number_cause}
 
 -- whether a fault is that of the length
@@ -19,28 +19,28 @@ short_by text answer u f true l h = let e : true ≡ false = ap is_length_fault 
 short_by text answer u f false l h = (u, ltb-false 8192 (length (chars text)) l)
 
 -- another answer comes only within the length
-pub short_if : (text : List ℕ) (answer : Result Node ParseFault) → is_utf8 text ≡ true → parsed text ≡ answer → is_length_fault answer ≡ false → IsShort text
-unfolding parsed
+pub short_if : (text : List ℕ) (answer : Result Node ParseFault) → is_utf8 text ≡ true → parse_result text ≡ answer → is_length_fault answer ≡ false → IsShort text
+unfolding parse_result
 short_if text answer u h f = short_by text answer u f (is_too_long text) refl h
 
-pub cause_if : (text : List ℕ) (answer : Result Node ParseFault) → is_utf8 text ≡ true → parsed text ≡ answer → is_length_fault answer ≡ false → IsShort text × Cause text answer
+pub cause_if : (text : List ℕ) (answer : Result Node ParseFault) → is_utf8 text ≡ true → parse_result text ≡ answer → is_length_fault answer ≡ false → IsShort text × Cause text answer
 cause_if text answer u h f = let s = short_if text answer u h f in (s, fault_cause text answer s h)
 
 long_by : (text : List ℕ) (long : Bool) → is_too_long text ≡ long → (if long then Err faults.TooLong else read_text text) ≡ Err faults.TooLong → 8192 < length (chars text)
 long_by text true l h = ltb-true 8192 (length (chars text)) l
 long_by text false l h = absurd (subst (Cause text) h (cause_of text))
 
-pub too_long_is : (text : List ℕ) → parsed text ≡ Err faults.TooLong → 8192 < length (chars text)
-unfolding parsed
+pub too_long_is : (text : List ℕ) → parse_result text ≡ Err faults.TooLong → 8192 < length (chars text)
+unfolding parse_result
 too_long_is text h = long_by text (is_too_long text) refl h
 
-pub is_too_long_then : (text : List ℕ) → 8192 < length (chars text) → parsed text ≡ Err faults.TooLong
-unfolding parsed
+pub is_too_long_then : (text : List ℕ) → 8192 < length (chars text) → parse_result text ≡ Err faults.TooLong
+unfolding parse_result
 is_too_long_then text h = ap (λ b. if b then Err faults.TooLong else read_text text) (lt-ltb 8192 (length (chars text)) h)
 
 -- ---- the clauses of parsing
 abbrev pub Answers : List ℕ → Result Node ParseFault → Type 0
-Answers text result = (result ≡ Err faults.Memory) ⊎ (result ≡ parsed text)
+Answers text result = (result ≡ Err faults.Memory) ⊎ (result ≡ parse_result text)
 
 -- whether an answer is want of memory
 abbrev is_memory : Result Node ParseFault → Bool
@@ -49,7 +49,7 @@ is_memory (Err faults.Memory) = true
 is_memory (Err other) = false
 
 -- an answer that isn't
-meant : (text : List ℕ) (result answer : Result Node ParseFault) → Answers text result → result ≡ answer → is_memory answer ≡ false → parsed text ≡ answer
+meant : (text : List ℕ) (result answer : Result Node ParseFault) → Answers text result → result ≡ answer → is_memory answer ≡ false → parse_result text ≡ answer
 meant text result answer (inl memory) e n = let t : true ≡ false = sym (ap is_memory (sym e ∙ memory)) ∙ n in cc
 meant text result answer (inr exact) e n = sym exact ∙ e
 

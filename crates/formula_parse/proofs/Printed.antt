@@ -4,7 +4,7 @@ use Rattle.std.specs.List.{flat_map, list_any}
 use Rattle.formula_parse.specs.declared.nodes.Node.{Node}
 use Rattle.formula_parse.specs.declared.tokens.Token.{Token}
 use Rattle.formula_parse.specs.Faults.{IsFormula, IsTooDeep}
-use Rattle.formula_parse.specs.Printing.{printed, token_text, tokens_of}
+use Rattle.formula_parse.specs.Printing.{canonical_text, token_text, tokens_of}
 use Rattle.formula_parse.specs.Reading.{is_wide_area, is_large_number}
 use Rattle.formula_parse.proofs.NamingTokens.{Each, each_fails, each_spelled}
 use Rattle.formula_parse.proofs.PrintedDepth.{printed_shallow}
@@ -21,8 +21,8 @@ none_passes test [] e = refl
 none_passes test (token ∷ written) e = ap (λ b. b || list_any test written) e.0 ∙ none_passes test written e.1
 
 -- what is printed of a formula's tree is a formula of that tree
-pub printed_reads_back : (text : List ℕ) (tree : Node) → IsFormula text tree → IsFormula (printed tree) tree
-unfolding printed
+pub printed_reads_back : (text : List ℕ) (tree : Node) → IsFormula text tree → IsFormula (canonical_text tree) tree
+unfolding canonical_text
 printed_reads_back text tree f =
     let ts = f.written in
     let us = tokens_of tree in

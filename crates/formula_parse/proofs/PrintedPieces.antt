@@ -17,7 +17,7 @@ use Rattle.cell_refs.specs.declared.references.RefText.{RefText}
 use Rattle.cell_refs.proofs.Front.{ascii_reference, reference_reads_back, stands_from_read}
 use Rattle.cell_values.specs.Error.{error_word}
 use Rattle.cell_values.specs.Name.{is_name, is_name_byte}
-use Rattle.cell_values.specs.Word.{doubled}
+use Rattle.cell_values.specs.Word.{with_doubled_quotes}
 use Rattle.cell_values.specs.declared.comparison.CompareOp.TheVariants as compare
 use Rattle.cell_values.specs.declared.errors.ErrorKind.{ErrorKind}
 use Rattle.cell_values.specs.declared.errors.ErrorKind.TheVariants as errors
@@ -253,7 +253,7 @@ number_shorter piece v h e = record {
 -- the canonical text of a token is no longer than a piece that writes it
 pub no_longer : (piece : List ℕ) (token : Token) → Writes piece token → IsNoLonger piece (token_text token)
 no_longer piece (tokens.Number n) w = inl (number_shorter piece (unsigned_abs n) w.0 (ap unsigned_abs w.1))
-no_longer piece (tokens.Text t) w = inr (34 ∷ doubled t, w.0, sym w.0)
+no_longer piece (tokens.Text t) w = inr (34 ∷ with_doubled_quotes t, w.0, sym w.0)
 no_longer piece (tokens.Error e) w = inl (word_text piece (error_word e) w (error_ascii e))
 no_longer piece (tokens.Boolean b) w = inl (word_text piece (boolean_word b) w (boolean_ascii b))
 no_longer piece (tokens.Reference r) w = inl (reference_shorter piece r w)

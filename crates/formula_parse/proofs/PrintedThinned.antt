@@ -8,7 +8,7 @@ use Rattle.formula_parse.specs.declared.tokens.Token.{Token}
 use Rattle.formula_parse.specs.declared.tokens.Token.TheVariants as tokens
 use Rattle.formula_parse.specs.Faults.{open_behind}
 use Rattle.formula_parse.specs.Grammar.{Written, IsWritten, IsSigned, IsEnclosed, AreSigns, AreArguments, IsChain, IsChainAt, place_of}
-use Rattle.formula_parse.specs.Printing.{tokens_of, tokens_step, separated, interleaved}
+use Rattle.formula_parse.specs.Printing.{tokens_of, tokens_step, argument_tokens, chain_tokens}
 use Rattle.formula_parse.proofs.NamingTokens.{Each}
 use Rattle.formula_parse.proofs.NodeLaws.{node_induction, fold_number, fold_text, fold_error, fold_boolean, fold_reference, fold_area, fold_call, fold_parentheses, fold_negation, fold_chain, number_is_written, text_is_written, error_is_written, boolean_is_written, reference_is_written, area_is_written, call_is_written, parentheses_is_written, negation_is_written, chain_is_written}
 
@@ -90,25 +90,25 @@ enclosed_thins opening Inner operand us own h =
     (thinned_cons opening _ _ (thinned_append us h.0 (tokens.Close ∷ []) (tokens.Close ∷ []) (own h.0 h.2) (inl ([], refl, refl))))
 
 -- arguments
-arguments_thin : (xs : List Node) (inner : List Token) → All Thins xs → AreArguments (map IsWritten xs) inner → IsThinned (separated (map tokens_of xs)) inner
+arguments_thin : (xs : List Node) (inner : List Token) → All Thins xs → AreArguments (map IsWritten xs) inner → IsThinned (argument_tokens (map tokens_of xs)) inner
 arguments_thin [] inner all h = subst (IsThinned []) (sym h) refl
 arguments_thin (x ∷ []) inner all h = All-head Thins x [] all 0 inner h
 arguments_thin (x ∷ y ∷ xs) inner all h =
-    subst (IsThinned (separated (map tokens_of (x ∷ y ∷ xs)))) (sym h.2)
+    subst (IsThinned (argument_tokens (map tokens_of (x ∷ y ∷ xs)))) (sym h.2)
     (thinned_append (tokens_of x) h.0 _ _ (All-head Thins x (y ∷ xs) all 0 h.0 h.3) (thinned_cons tokens.Comma _ _ (arguments_thin (y ∷ xs) h.1 (All-tail Thins x (y ∷ xs) all) h.4)))
 
 -- the operands of a chain
-chain_thins : (place : ℕ) (xs : List Node) (ops : List Operator) (written : List Token) → All Thins xs → IsChain place (map IsWritten xs) ops written → IsThinned (interleaved (map tokens_of xs) ops) written
+chain_thins : (place : ℕ) (xs : List Node) (ops : List Operator) (written : List Token) → All Thins xs → IsChain place (map IsWritten xs) ops written → IsThinned (chain_tokens (map tokens_of xs) ops) written
 chain_thins place [] ops written all h = absurd h
 chain_thins place (x ∷ []) [] written all h = All-head Thins x [] all (suc place) written h
 chain_thins place (x ∷ []) (op ∷ ops) written all h = absurd h
 chain_thins place (x ∷ y ∷ xs) [] written all h = absurd h
 chain_thins place (x ∷ y ∷ xs) (op ∷ ops) written all h =
-    subst (IsThinned (interleaved (map tokens_of (x ∷ y ∷ xs)) (op ∷ ops))) (sym h.2)
+    subst (IsThinned (chain_tokens (map tokens_of (x ∷ y ∷ xs)) (op ∷ ops))) (sym h.2)
     (thinned_append (tokens_of x) h.0 _ _ (All-head Thins x (y ∷ xs) all (suc place) h.0 h.3) (thinned_cons (tokens.Operator op) _ _ (chain_thins place (y ∷ xs) ops h.1 (All-tail Thins x (y ∷ xs) all) h.5)))
 
 -- a chain where it stands
-chain_at_thins : (place : ℕ) (xs : List Node) (ops : List Operator) (written : List Token) → All Thins xs → IsChainAt place (map IsWritten xs) ops written → IsThinned (interleaved (map tokens_of xs) ops) written
+chain_at_thins : (place : ℕ) (xs : List Node) (ops : List Operator) (written : List Token) → All Thins xs → IsChainAt place (map IsWritten xs) ops written → IsThinned (chain_tokens (map tokens_of xs) ops) written
 chain_at_thins place xs [] written all h = absurd h
 chain_at_thins place xs (op ∷ ops) written all h = chain_thins (place_of op) xs (op ∷ ops) written all h.1
 

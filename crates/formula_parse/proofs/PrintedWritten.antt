@@ -5,7 +5,7 @@ use Rattle.formula_parse.specs.declared.nodes.Node.{Node}
 use Rattle.formula_parse.specs.declared.operators.Operator.{Operator}
 use Rattle.formula_parse.specs.declared.tokens.Token.{Token}
 use Rattle.formula_parse.specs.Grammar.{Written, IsWritten, IsSigned, AreSigns, AreArguments, IsChain, IsChainAt, place_of}
-use Rattle.formula_parse.specs.Printing.{tokens_of, tokens_step, separated, interleaved}
+use Rattle.formula_parse.specs.Printing.{tokens_of, tokens_step, argument_tokens, chain_tokens}
 use Rattle.formula_parse.proofs.NodeLaws.{node_induction, fold_number, fold_text, fold_error, fold_boolean, fold_reference, fold_area, fold_call, fold_parentheses, fold_negation, fold_chain, number_is_written, text_is_written, error_is_written, boolean_is_written, reference_is_written, area_is_written, call_is_written, parentheses_is_written, negation_is_written, chain_is_written}
 use Rattle.formula_parse.proofs.PrintedThinned.{minus}
 
@@ -23,23 +23,23 @@ plain : (place : ℕ) (Operand : List Token → Type 0) (us : List Token) → Op
 plain place Operand us own = record { signs = []; operand = us; both = refl; room = inr refl; counted = refl; own = own }
 
 -- arguments
-arguments_write : (xs : List Node) (inner : List Token) → All WritesItself xs → AreArguments (map IsWritten xs) inner → AreArguments (map IsWritten xs) (separated (map tokens_of xs))
+arguments_write : (xs : List Node) (inner : List Token) → All WritesItself xs → AreArguments (map IsWritten xs) inner → AreArguments (map IsWritten xs) (argument_tokens (map tokens_of xs))
 arguments_write [] inner all h = refl
 arguments_write (x ∷ []) inner all h = All-head WritesItself x [] all 0 inner h
 arguments_write (x ∷ y ∷ xs) inner all h =
-    (tokens_of x, separated (map tokens_of (y ∷ xs)), refl, All-head WritesItself x (y ∷ xs) all 0 h.0 h.3, arguments_write (y ∷ xs) h.1 (All-tail WritesItself x (y ∷ xs) all) h.4)
+    (tokens_of x, argument_tokens (map tokens_of (y ∷ xs)), refl, All-head WritesItself x (y ∷ xs) all 0 h.0 h.3, arguments_write (y ∷ xs) h.1 (All-tail WritesItself x (y ∷ xs) all) h.4)
 
 -- the operands of a chain
-chain_writes : (place : ℕ) (xs : List Node) (ops : List Operator) (written : List Token) → All WritesItself xs → IsChain place (map IsWritten xs) ops written → IsChain place (map IsWritten xs) ops (interleaved (map tokens_of xs) ops)
+chain_writes : (place : ℕ) (xs : List Node) (ops : List Operator) (written : List Token) → All WritesItself xs → IsChain place (map IsWritten xs) ops written → IsChain place (map IsWritten xs) ops (chain_tokens (map tokens_of xs) ops)
 chain_writes place [] ops written all h = absurd h
 chain_writes place (x ∷ []) [] written all h = All-head WritesItself x [] all (suc place) written h
 chain_writes place (x ∷ []) (op ∷ ops) written all h = absurd h
 chain_writes place (x ∷ y ∷ xs) [] written all h = absurd h
 chain_writes place (x ∷ y ∷ xs) (op ∷ ops) written all h =
-    (tokens_of x, interleaved (map tokens_of (y ∷ xs)) ops, refl, All-head WritesItself x (y ∷ xs) all (suc place) h.0 h.3, h.4, chain_writes place (y ∷ xs) ops h.1 (All-tail WritesItself x (y ∷ xs) all) h.5)
+    (tokens_of x, chain_tokens (map tokens_of (y ∷ xs)) ops, refl, All-head WritesItself x (y ∷ xs) all (suc place) h.0 h.3, h.4, chain_writes place (y ∷ xs) ops h.1 (All-tail WritesItself x (y ∷ xs) all) h.5)
 
 -- a chain where it stands
-chain_at_writes : (place : ℕ) (xs : List Node) (ops : List Operator) (written : List Token) → All WritesItself xs → IsChainAt place (map IsWritten xs) ops written → IsChainAt place (map IsWritten xs) ops (interleaved (map tokens_of xs) ops)
+chain_at_writes : (place : ℕ) (xs : List Node) (ops : List Operator) (written : List Token) → All WritesItself xs → IsChainAt place (map IsWritten xs) ops written → IsChainAt place (map IsWritten xs) ops (chain_tokens (map tokens_of xs) ops)
 chain_at_writes place xs [] written all h = absurd h
 chain_at_writes place xs (op ∷ ops) written all h = (h.0, chain_writes (place_of op) xs (op ∷ ops) written all h.1)
 
@@ -59,7 +59,7 @@ tree_writes = node_induction WritesItself
     (λ name arguments all place written w.
     let h = subst (λ (W : Written). W place written) (call_is_written name arguments) w in
     to_node (_) _ place _ (call_is_written name arguments) (fold_call (List Token) tokens_step name arguments)
-    (h.0, plain place _ _ (separated (map tokens_of arguments), refl, arguments_write arguments h.1.own.0 all h.1.own.2)))
+    (h.0, plain place _ _ (argument_tokens (map tokens_of arguments), refl, arguments_write arguments h.1.own.0 all h.1.own.2)))
     (λ inner own place written w.
     let h = subst (λ (W : Written). W place written) (parentheses_is_written inner) w in
     to_node (_) _ place _ (parentheses_is_written inner) (fold_parentheses (List Token) tokens_step inner) (plain place _ _ (tokens_of inner, refl, own 0 h.own.0 h.own.2)))

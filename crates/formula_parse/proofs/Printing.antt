@@ -9,7 +9,7 @@ use Rattle.formula_parse.specs.declared.nodes.Node.TheVariants as nodes
 use Rattle.formula_parse.specs.declared.operators.Operator.TheVariants as operators
 use Rattle.formula_parse.specs.declared.tokens.Token.{Token}
 use Rattle.formula_parse.specs.declared.tokens.Token.TheVariants as tokens
-use Rattle.formula_parse.specs.Printing.{separated, token_text, tokens_of, tokens_step}
+use Rattle.formula_parse.specs.Printing.{argument_tokens, token_text, tokens_of, tokens_step}
 use Rattle.formula_parse.proofs.NodeLaws.{fold_negation}
 
 -- further arguments, each behind its `,`
@@ -18,12 +18,12 @@ behind_commas [] = []
 behind_commas (argument ∷ arguments) = tokens.Comma ∷ (argument ++ behind_commas arguments)
 
 -- arguments are the first one and the further ones
-pub separated_behind : (x : List Token) (xs : List (List Token)) → separated (x ∷ xs) ≡ x ++ behind_commas xs
+pub separated_behind : (x : List Token) (xs : List (List Token)) → argument_tokens (x ∷ xs) ≡ x ++ behind_commas xs
 separated_behind x [] = sym (append-nil x)
 separated_behind x (y ∷ ys) = ap (λ rest. x ++ tokens.Comma ∷ rest) (separated_behind y ys)
 
 -- the first argument, and the further ones behind it
-pub arguments_begin : (old : List ℕ) (nodes : List Node) (first : Node) → 1 ≤ length nodes → first ≡ get_or nodes 0 first → (old ++ flat_map token_text (tokens_of first)) ++ flat_map token_text (behind_commas (map tokens_of (take (length nodes - 1) (drop 1 nodes)))) ≡ old ++ flat_map token_text (separated (map tokens_of nodes))
+pub arguments_begin : (old : List ℕ) (nodes : List Node) (first : Node) → 1 ≤ length nodes → first ≡ get_or nodes 0 first → (old ++ flat_map token_text (tokens_of first)) ++ flat_map token_text (behind_commas (map tokens_of (take (length nodes - 1) (drop 1 nodes)))) ≡ old ++ flat_map token_text (argument_tokens (map tokens_of nodes))
 arguments_begin old [] first some is = absurd (omega arith)
 arguments_begin old (n ∷ ns) first some is =
     let len : suc (length ns) - 1 ≡ length ns = omega arith in

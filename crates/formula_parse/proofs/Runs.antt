@@ -8,7 +8,7 @@ use Rattle.formula_parse.specs.declared.reader.Reader.{Reader}
 use Rattle.formula_parse.specs.declared.tokens.Token.{Token}
 use Rattle.formula_parse.specs.Faults.{IsUnlimitedFormula}
 use Rattle.formula_parse.specs.Lexing.{token_at}
-use Rattle.formula_parse.specs.Reading.{Turn, turn_at, stepped, ended, first_reader, is_wide_area, is_large_number}
+use Rattle.formula_parse.specs.Reading.{Turn, turn_at, reader_behind, tree_at_end, first_reader, is_wide_area, is_large_number}
 use Rattle.formula_parse.specs.Tokens.{IsSpelled, are_spaces}
 use Rattle.formula_parse.proofs.LexingLaws.{written_is_found}
 use Rattle.formula_parse.proofs.Machine.{ran}
@@ -43,8 +43,8 @@ stepped_turn reader token next (Some turn) t h =
       large = sym (ap (λ r. r.has_large_number) same);
     }
 
-pub step_tells : (reader : Reader) (token : Token) (next : Reader) → stepped reader token ≡ Some next → Stepped reader token next
-unfolding stepped
+pub step_tells : (reader : Reader) (token : Token) (next : Reader) → reader_behind reader token ≡ Some next → Stepped reader token next
+unfolding reader_behind
 step_tells reader token next h = stepped_turn reader token next (turn_at reader.phase reader.frames token) refl h
 
 no_turn : (next : Turn) → None ≡ Some next → ⊥
@@ -85,7 +85,7 @@ reads_note_numbers (t ∷ ts) reader front rest last (gap, piece, behind, next, 
     either reader.has_large_number (is_large_number t) (list_any is_large_number ts) last.has_large_number (subst (λ w. last.has_large_number ≡ (w || list_any is_large_number ts)) ((step_tells reader t next steps).large) (reads_note_numbers ts next behind rest last more))
 
 -- a text that is read to its end, where a formula may end, is a formula of that tree
-pub read_is_formula : (front rest : List ℕ) (ts : List Token) (last : Reader) (tree : Node) → Reads first_reader front rest ts last → are_spaces rest ≡ true → ended last.phase last.frames ≡ Some tree → IsUnlimitedFormula (61 ∷ (front ++ rest)) ts tree
+pub read_is_formula : (front rest : List ℕ) (ts : List Token) (last : Reader) (tree : Node) → Reads first_reader front rest ts last → are_spaces rest ≡ true → tree_at_end last.phase last.frames ≡ Some tree → IsUnlimitedFormula (61 ∷ (front ++ rest)) ts tree
 read_is_formula front rest ts last tree r s e = record {
   rest = front ++ rest;
   begins = refl;

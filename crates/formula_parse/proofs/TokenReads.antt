@@ -10,14 +10,14 @@ use Rattle.formula_parse.specs.declared.tokens.Token.TheVariants as tokens
 use Rattle.formula_parse.specs.declared.operators.Operator.TheVariants as operators
 use Rattle.cell_values.specs.declared.comparison.CompareOp.TheVariants as compare
 use Rattle.formula_parse.specs.Lexing.{token_at}
-use Rattle.formula_parse.specs.Reading.{stepped, is_too_deep}
+use Rattle.formula_parse.specs.Reading.{reader_behind, is_too_deep}
 use Rattle.formula_parse.specs.Tokens.{Writes, IsSpelled, are_spaces, goes_on, goes_on_with}
 use Rattle.formula_parse.proofs.LexingLaws.{written_is_found}
 
 -- the reader reads these tokens, which are the front of a text before this rest, and nothing is too deep
 abbrev pub Reads : Reader → List ℕ → List ℕ → List Token → Reader → Type 0
 Reads reader front rest [] last = (front ≡ []) × (last ≡ reader)
-Reads reader front rest (token ∷ tokens) last = (gap piece behind : List ℕ) × (next : Reader) × (front ≡ gap ++ (piece ++ behind)) × (are_spaces gap ≡ true) × Writes piece token × (goes_on_with token (behind ++ rest) ≡ false) × (stepped reader token ≡ Some next) × (is_too_deep next.frames ≡ false) × Reads next behind rest tokens last
+Reads reader front rest (token ∷ tokens) last = (gap piece behind : List ℕ) × (next : Reader) × (front ≡ gap ++ (piece ++ behind)) × (are_spaces gap ≡ true) × Writes piece token × (goes_on_with token (behind ++ rest) ≡ false) × (reader_behind reader token ≡ Some next) × (is_too_deep next.frames ≡ false) × Reads next behind rest tokens last
 
 -- a token that doesn't go on with one rest doesn't with another
 abbrev pub IsSafe : List ℕ → List ℕ → Type 0

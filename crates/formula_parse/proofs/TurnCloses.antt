@@ -10,7 +10,7 @@ use Rattle.formula_parse.specs.declared.reader.Phase.{Phase}
 use Rattle.formula_parse.specs.declared.reader.Phase.TheVariants as phases
 use Rattle.formula_parse.specs.declared.tokens.Token.{Token}
 use Rattle.formula_parse.specs.declared.tokens.Token.TheVariants as tokens
-use Rattle.formula_parse.specs.Reading.{Turn, negated, finished, awaits_operand}
+use Rattle.formula_parse.specs.Reading.{Turn, signed_node, tree_of_chains, awaits_operand}
 use Rattle.formula_parse.proofs.Machine.{ran, ended_behind}
 use Rattle.formula_parse.proofs.TurnStands.{Stands, IsOpened, IsBegun}
 
@@ -48,10 +48,10 @@ formula_ends operand frame frames none = subst (λ fs. IsEnded (phases.After ope
 frame_ends : (what : Opened) (minuses calls : ℕ) (chains : List OpenChain) (frames : List Frame) (operand : Node) → IsClosable what frames (AreClosable frames) → ((node : Node) → AreClosable frames → IsEnded (phases.After node, frames)) → IsEnded (phases.After operand, record { opened = what; minuses = minuses; calls = calls; chains = chains } ∷ frames)
 frame_ends opened.Formula minuses calls chains frames operand c onward = formula_ends operand (record { opened = opened.Formula; minuses = minuses; calls = calls; chains = chains }) frames c
 frame_ends opened.Parentheses minuses calls chains frames operand c onward =
-    let e = onward (negated minuses (nodes.Parentheses (finished operand chains))) c in
+    let e = onward (signed_node minuses (nodes.Parentheses (tree_of_chains operand chains))) c in
     (suc e.0, e.1, e.2, e.3)
 frame_ends (opened.Call name arguments) minuses calls chains frames operand c onward =
-    let e = onward (negated minuses (nodes.Call name (arguments ++ finished operand chains ∷ []))) c in
+    let e = onward (signed_node minuses (nodes.Call name (arguments ++ tree_of_chains operand chains ∷ []))) c in
     (suc e.0, e.1, e.2, e.3)
 
 -- behind an operand, closing all that is open ends a formula
@@ -64,7 +64,7 @@ begun_ends : (what : Opened) (minuses calls : ℕ) (chains : List OpenChain) (fr
 begun_ends opened.Formula minuses calls chains frames b c = absurd b
 begun_ends opened.Parentheses minuses calls chains frames b c = absurd b
 begun_ends (opened.Call name arguments) minuses calls chains frames b c =
-    let e = operand_ends frames (negated minuses (nodes.Call name arguments)) c in
+    let e = operand_ends frames (signed_node minuses (nodes.Call name arguments)) c in
     (suc e.0, e.1, e.2, e.3)
 
 -- directly behind a name and `(`, closing all that is open ends a formula

@@ -10,7 +10,7 @@ use Rattle.formula_parse.specs.declared.operators.Operator.TheVariants as operat
 use Rattle.formula_parse.specs.declared.tokens.Token.{Token}
 use Rattle.formula_parse.specs.declared.tokens.Token.TheVariants as tokens
 use Rattle.formula_parse.specs.Grammar.{place_of, Written, AreSigns, IsSigned, IsChainAt, IsWritten}
-use Rattle.formula_parse.specs.Reading.{negated}
+use Rattle.formula_parse.specs.Reading.{signed_node}
 use Rattle.formula_parse.proofs.NodeLaws.{node_induction, number_is_written, text_is_written, error_is_written, boolean_is_written, reference_is_written, area_is_written, call_is_written, parentheses_is_written, negation_is_written, chain_is_written}
 
 -- from what a tree is written with to the grammar's words for it
@@ -133,15 +133,15 @@ written_unsigned = node_induction IsUnsigned
     (λ operands ops each signs written s w. absurd (no_chain_alone 5 _ ops written (omega arith) (written_to (chain_is_written operands ops) 5 written w)))
 
 -- signs of which some are `-` make a negation
-pub negated_some : (count : ℕ) (tree : Node) → 0 < count → negated count tree ≡ nodes.Negation count tree
+pub negated_some : (count : ℕ) (tree : Node) → 0 < count → signed_node count tree ≡ nodes.Negation count tree
 negated_some count tree some = cond-false (count == 0) tree (nodes.Negation count tree) (is_not_zero count some)
 
 -- signs of which none is `-` leave an operand as it is
-pub negated_none : (count : ℕ) (tree : Node) → count ≡ 0 → negated count tree ≡ tree
-negated_none count tree none = ap (λ n. negated n tree) none
+pub negated_none : (count : ℕ) (tree : Node) → count ≡ 0 → signed_node count tree ≡ tree
+negated_none count tree none = ap (λ n. signed_node n tree) none
 
 -- an operand alone, behind signs
-pub written_signed : (count : ℕ) (tree : Node) (signs written : List Token) → AreSigns count signs → IsWritten tree 5 written → IsWritten (negated count tree) 4 (signs ++ written)
+pub written_signed : (count : ℕ) (tree : Node) (signs written : List Token) → AreSigns count signs → IsWritten tree 5 written → IsWritten (signed_node count tree) 4 (signs ++ written)
 written_signed zero tree signs written s w = written_unsigned tree signs written s w
 written_signed (suc count) tree signs written s w =
     subst (λ node. IsWritten node 4 (signs ++ written)) (sym (negated_some (suc count) tree (omega arith)))

@@ -14,7 +14,7 @@ use Rattle.formula_parse.specs.declared.reader.Phase.TheVariants as phases
 use Rattle.formula_parse.specs.declared.tokens.Token.{Token}
 use Rattle.formula_parse.specs.declared.tokens.Token.TheVariants as tokens
 use Rattle.formula_parse.specs.Faults.{open_behind}
-use Rattle.formula_parse.specs.Reading.{Turn, turn_at, operand_turn, start_turn, after_turn, empty_call, after_operand, closing, with_argument, finished, calls_open, awaits_operand, with_frame}
+use Rattle.formula_parse.specs.Reading.{Turn, turn_at, operand_turn, start_turn, after_turn, empty_call, after_operand, closing, with_argument, tree_of_chains, calls_open, awaits_operand, with_frame}
 use Rattle.formula_parse.proofs.Machine.{first_turn, ran, is_operand}
 use Rattle.formula_parse.proofs.TurnRuns.{Of, kept_by_run}
 
@@ -114,8 +114,8 @@ comma_opens (opened.Call name arguments) minuses calls frames last left h = comm
 after_opens : (operand : Node) (frames : List Frame) (left : List Bool) (token : Token) → Opens frames left → Of (λ (next : Turn). Opens next.1 (open_behind left (token ∷ []))) (after_turn operand frames token)
 after_opens operand [] left token h = absurd h
 after_opens operand (frame ∷ frames) left (tokens.Operator op) h = h
-after_opens operand (frame ∷ frames) left tokens.Close h = close_opens frame.opened frame.minuses frame.calls frames (finished operand frame.chains) left h
-after_opens operand (frame ∷ frames) left tokens.Comma h = comma_opens frame.opened frame.minuses frame.calls frames (finished operand frame.chains) left h
+after_opens operand (frame ∷ frames) left tokens.Close h = close_opens frame.opened frame.minuses frame.calls frames (tree_of_chains operand frame.chains) left h
+after_opens operand (frame ∷ frames) left tokens.Comma h = comma_opens frame.opened frame.minuses frame.calls frames (tree_of_chains operand frame.chains) left h
 after_opens operand (frame ∷ frames) left token h = tt
 
 -- what a token directly behind a name and `(` leaves open

@@ -16,7 +16,7 @@ use Rattle.formula_parse.specs.declared.reader.Phase.TheVariants as phases
 use Rattle.formula_parse.specs.declared.tokens.Token.{Token}
 use Rattle.formula_parse.specs.declared.tokens.Token.TheVariants as tokens
 use Rattle.formula_parse.specs.Grammar.{place_of, Written, AreSigns, IsSigned, IsOne, AreArguments, IsWritten}
-use Rattle.formula_parse.specs.Reading.{Turn, turn_at, operand_turn, start_turn, after_turn, empty_call, after_operand, closing, with_argument, with_frame, negated, bound, joined, finished, ended}
+use Rattle.formula_parse.specs.Reading.{Turn, turn_at, operand_turn, start_turn, after_turn, empty_call, after_operand, closing, with_argument, with_frame, signed_node, operand_in_chains, chains_behind, tree_of_chains, tree_at_end}
 use Rattle.formula_parse.proofs.Machine.{first_turn, ran}
 use Rattle.formula_parse.proofs.NodeLaws.{number_is_written, text_is_written, error_is_written, boolean_is_written, reference_is_written, area_is_written, call_is_written, parentheses_is_written}
 use Rattle.formula_parse.proofs.ChainLinks.{AreChains, bound_written, chained_written, finished_written, chains_are_low}
@@ -72,7 +72,7 @@ start_stands_as_signs [] written h = h
 start_stands_as_signs (frame ∷ frames) written h = (h.0, h.1, h.2, h.3, begun_signs frame.opened frame.chains h.1 h.4)
 
 -- an operand alone behind signs
-operand_behind_signs : (minuses : ℕ) (frames : List Frame) (written : List Token) (operand : Node) (own : List Token) → Stands (phases.Signs minuses) frames written → IsWritten operand 5 own → Stands (phases.After (negated minuses operand)) frames (written ++ own)
+operand_behind_signs : (minuses : ℕ) (frames : List Frame) (written : List Token) (operand : Node) (own : List Token) → Stands (phases.Signs minuses) frames written → IsWritten operand 5 own → Stands (phases.After (signed_node minuses operand)) frames (written ++ own)
 operand_behind_signs minuses [] written operand own h w = h
 operand_behind_signs minuses (frame ∷ frames) written operand own h w =
     let i = h.4 in (
@@ -134,18 +134,18 @@ done_whole (x ∷ xs) last done own h w = argument_more (IsWritten x) (map IsWri
     argument_more X (Y ∷ Xs) argument rest inner e w some h = (argument, rest, e, w, h)
 
 -- a whole call behind signs
-call_behind_signs : (minuses : ℕ) (frames : List Frame) (name : Name) (arguments : List Node) (before inner written : List Token) → written ≡ before ++ tokens.Call name ∷ (inner ++ tokens.Close ∷ []) → length arguments ≤ 255 → AreArguments (map IsWritten arguments) inner → Stands (phases.Signs minuses) frames before → Stands (phases.After (negated minuses (nodes.Call name arguments))) frames written
+call_behind_signs : (minuses : ℕ) (frames : List Frame) (name : Name) (arguments : List Node) (before inner written : List Token) → written ≡ before ++ tokens.Call name ∷ (inner ++ tokens.Close ∷ []) → length arguments ≤ 255 → AreArguments (map IsWritten arguments) inner → Stands (phases.Signs minuses) frames before → Stands (phases.After (signed_node minuses (nodes.Call name arguments))) frames written
 call_behind_signs minuses frames name arguments before inner written e few w h =
     let own = tokens.Call name ∷ (inner ++ tokens.Close ∷ []) in
-    subst (Stands (phases.After (negated minuses (nodes.Call name arguments))) frames) (sym e)
+    subst (Stands (phases.After (signed_node minuses (nodes.Call name arguments))) frames) (sym e)
     (operand_behind_signs minuses frames before (nodes.Call name arguments) own h
     (written_from (call_is_written name arguments) 5 own (few, alone _ own (inner, refl, w))))
 
 -- whole parentheses behind signs
-parentheses_behind_signs : (minuses : ℕ) (frames : List Frame) (last : Node) (before inner written : List Token) → written ≡ before ++ tokens.Open ∷ (inner ++ tokens.Close ∷ []) → IsWritten last 0 inner → Stands (phases.Signs minuses) frames before → Stands (phases.After (negated minuses (nodes.Parentheses last))) frames written
+parentheses_behind_signs : (minuses : ℕ) (frames : List Frame) (last : Node) (before inner written : List Token) → written ≡ before ++ tokens.Open ∷ (inner ++ tokens.Close ∷ []) → IsWritten last 0 inner → Stands (phases.Signs minuses) frames before → Stands (phases.After (signed_node minuses (nodes.Parentheses last))) frames written
 parentheses_behind_signs minuses frames last before inner written e w h =
     let own = tokens.Open ∷ (inner ++ tokens.Close ∷ []) in
-    subst (Stands (phases.After (negated minuses (nodes.Parentheses last))) frames) (sym e)
+    subst (Stands (phases.After (signed_node minuses (nodes.Parentheses last))) frames) (sym e)
     (operand_behind_signs minuses frames before (nodes.Parentheses last) own h
     (written_from (parentheses_is_written last) 5 own (alone _ own (inner, refl, w))))
 
@@ -200,23 +200,23 @@ comma_stands (opened.Call name arguments) minuses calls frames last front inner 
 
 -- ---- a turn
 -- all chains of a frame closed round its last operand
-inside_finished : (what : Opened) (chains : List OpenChain) (operand : Node) (inner : List Token) → IsInside what chains (phases.After operand) inner → IsWritten (finished operand chains) 0 inner
-inside_finished what chains operand inner i = subst (IsWritten (finished operand chains) 0) (sym i.2) (finished_written chains operand 4 i.0 i.1 i.3 (chains_are_low chains) i.4)
+inside_finished : (what : Opened) (chains : List OpenChain) (operand : Node) (inner : List Token) → IsInside what chains (phases.After operand) inner → IsWritten (tree_of_chains operand chains) 0 inner
+inside_finished what chains operand inner i = subst (IsWritten (tree_of_chains operand chains) 0) (sym i.2) (finished_written chains operand 4 i.0 i.1 i.3 (chains_are_low chains) i.4)
 
 -- an operator behind the last operand of a frame
-inside_joined : (what : Opened) (chains : List OpenChain) (operand : Node) (op : Operator) (inner : List Token) → IsInside what chains (phases.After operand) inner → IsInside what (joined operand op chains) (phases.Signs 0) (inner ++ tokens.Operator op ∷ [])
+inside_joined : (what : Opened) (chains : List OpenChain) (operand : Node) (op : Operator) (inner : List Token) → IsInside what chains (phases.After operand) inner → IsInside what (chains_behind operand op chains) (phases.Signs 0) (inner ++ tokens.Operator op ∷ [])
 inside_joined what chains operand op inner i =
     let low = place_is_low op in
     let b = bound_written (place_of op) chains operand 4 i.0 i.1 (omega arith) i.3 (chains_are_low chains) i.4 in
-    let c = chained_written op (bound (place_of op) operand chains) (i.0 ++ i.1) b in
-    (inner ++ tokens.Operator op ∷ [], [], sym (append-nil (inner ++ tokens.Operator op ∷ [])), subst (λ w. AreChains (joined operand op chains) (w ++ tokens.Operator op ∷ [])) (sym i.2) c, refl)
+    let c = chained_written op (operand_in_chains (place_of op) operand chains) (i.0 ++ i.1) b in
+    (inner ++ tokens.Operator op ∷ [], [], sym (append-nil (inner ++ tokens.Operator op ∷ [])), subst (λ w. AreChains (chains_behind operand op chains) (w ++ tokens.Operator op ∷ [])) (sym i.2) c, refl)
 
 -- a turn behind an operand
 after_stands : (operand : Node) (frames : List Frame) (written : List Token) (token : Token) → Stands (phases.After operand) frames written → Of (λ next. StandsFor next (written ++ token ∷ [])) (after_turn operand frames token)
 after_stands operand [] written token h = absurd h
 after_stands operand (frame ∷ frames) written (tokens.Operator op) h = (h.0, h.1 ++ tokens.Operator op ∷ [], more_behind h.0 h.1 (tokens.Operator op ∷ []) written h.2, h.3, inside_joined frame.opened frame.chains operand op h.1 h.4)
-after_stands operand (frame ∷ frames) written tokens.Close h = close_stands frame.opened frame.minuses frames (finished operand frame.chains) h.0 h.1 written h.2 h.3 (inside_finished frame.opened frame.chains operand h.1 h.4)
-after_stands operand (frame ∷ frames) written tokens.Comma h = comma_stands frame.opened frame.minuses frame.calls frames (finished operand frame.chains) h.0 h.1 written h.2 h.3 (inside_finished frame.opened frame.chains operand h.1 h.4)
+after_stands operand (frame ∷ frames) written tokens.Close h = close_stands frame.opened frame.minuses frames (tree_of_chains operand frame.chains) h.0 h.1 written h.2 h.3 (inside_finished frame.opened frame.chains operand h.1 h.4)
+after_stands operand (frame ∷ frames) written tokens.Comma h = comma_stands frame.opened frame.minuses frame.calls frames (tree_of_chains operand frame.chains) h.0 h.1 written h.2 h.3 (inside_finished frame.opened frame.chains operand h.1 h.4)
 after_stands operand (frame ∷ frames) written token h = tt
 
 -- a turn directly behind a name and `(`
@@ -236,13 +236,13 @@ run_stands written turn e = kept_by_run StandsFor (λ turn front token h. turn_s
 
 -- ---- the end
 -- the tree of the only frame
-whole_stands : (what : Opened) (minuses : ℕ) (chains : List OpenChain) (operand : Node) (front inner written : List Token) → written ≡ front ++ inner → IsOpened what [] (Stands (phases.Signs minuses) []) front → IsInside what chains (phases.After operand) inner → IsWritten (finished operand chains) 0 written
-whole_stands opened.Formula minuses chains operand front inner written e h i = subst (IsWritten (finished operand chains) 0) (sym (e ∙ ap (λ f. f ++ inner) h.1)) (inside_finished opened.Formula chains operand inner i)
+whole_stands : (what : Opened) (minuses : ℕ) (chains : List OpenChain) (operand : Node) (front inner written : List Token) → written ≡ front ++ inner → IsOpened what [] (Stands (phases.Signs minuses) []) front → IsInside what chains (phases.After operand) inner → IsWritten (tree_of_chains operand chains) 0 written
+whole_stands opened.Formula minuses chains operand front inner written e h i = subst (IsWritten (tree_of_chains operand chains) 0) (sym (e ∙ ap (λ f. f ++ inner) h.1)) (inside_finished opened.Formula chains operand inner i)
 whole_stands opened.Parentheses minuses chains operand front inner written e h i = absurd h.2
 whole_stands (opened.Call name arguments) minuses chains operand front inner written e h i = absurd h.5
 
 -- where tokens may end, they write the tree
-pub ended_stands : (phase : Phase) (frames : List Frame) (written : List Token) → Stands phase frames written → Of (λ tree. IsWritten tree 0 written) (ended phase frames)
+pub ended_stands : (phase : Phase) (frames : List Frame) (written : List Token) → Stands phase frames written → Of (λ tree. IsWritten tree 0 written) (tree_at_end phase frames)
 ended_stands phases.Start frames written h = tt
 ended_stands (phases.Signs minuses) frames written h = tt
 ended_stands (phases.After operand) [] written h = tt

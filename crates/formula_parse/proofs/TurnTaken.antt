@@ -17,7 +17,7 @@ use Rattle.formula_parse.specs.declared.reader.Phase.TheVariants as phases
 use Rattle.formula_parse.specs.declared.tokens.Token.{Token}
 use Rattle.formula_parse.specs.declared.tokens.Token.TheVariants as tokens
 use Rattle.formula_parse.specs.Grammar.{AreSigns, IsSigned, IsEnclosed, AreArguments, IsWritten}
-use Rattle.formula_parse.specs.Reading.{Turn, operand_turn, with_frame, negated, bound, finished, calls_open}
+use Rattle.formula_parse.specs.Reading.{Turn, operand_turn, with_frame, signed_node, operand_in_chains, tree_of_chains, calls_open}
 use Rattle.formula_parse.proofs.Machine.{ran}
 use Rattle.formula_parse.proofs.ChainLinks.{IsLooser}
 use Rattle.formula_parse.proofs.TurnGrammar.{no_signs}
@@ -33,8 +33,8 @@ pub record IsTaken (frame : Frame) (frames : List Frame) (chains : List OpenChai
   pub operand : Node
   pub left : List OpenChain
   pub runs : ran (phases.Signs 0, with_chains frame frames chains) written ≡ Some (phases.After operand, with_chains frame frames left)
-  pub bounds : (q : ℕ) → q < place → bound q operand left ≡ bound q tree round
-  pub ends : finished operand left ≡ finished tree round
+  pub bounds : (q : ℕ) → q < place → operand_in_chains q operand left ≡ operand_in_chains q tree round
+  pub ends : tree_of_chains operand left ≡ tree_of_chains tree round
 
 -- a tree at a place, in any frame of looser chains
 abbrev pub IsTakenAt : Node → ℕ → List Token → Type 0
@@ -42,7 +42,7 @@ IsTakenAt tree place written = (frame : Frame) (frames : List Frame) (chains : L
 
 -- a tree behind any signs
 abbrev pub IsTakenAlone : Node → List Token → Type 0
-IsTakenAlone tree written = (minuses : ℕ) (frames : List Frame) → ran (phases.Signs minuses, frames) written ≡ Some (phases.After (negated minuses tree), frames)
+IsTakenAlone tree written = (minuses : ℕ) (frames : List Frame) → ran (phases.Signs minuses, frames) written ≡ Some (phases.After (signed_node minuses tree), frames)
 
 -- all that a tree is written with is taken
 pub record AreTaken (tree : Node) : Type 0 where
@@ -62,11 +62,11 @@ signs_run (tokens.Operator operators.Subtract ∷ signs) minuses count frames h 
 signs_run (other ∷ signs) minuses count frames h = absurd h
 
 -- the turns over an operand behind its signs
-pub signed_run : (place count : ℕ) (Operand : List Token → Type 0) (tree : Node) (written : List Token) (frames : List Frame) → ((own : List Token) → Operand own → IsTakenAlone tree own) → IsSigned place count Operand written → ran (phases.Signs 0, frames) written ≡ Some (phases.After (negated count tree), frames)
+pub signed_run : (place count : ℕ) (Operand : List Token → Type 0) (tree : Node) (written : List Token) (frames : List Frame) → ((own : List Token) → Operand own → IsTakenAlone tree own) → IsSigned place count Operand written → ran (phases.Signs 0, frames) written ≡ Some (phases.After (signed_node count tree), frames)
 signed_run place count Operand tree written frames taken w =
     let zero_more : 0 + count ≡ count = omega arith in
     let front = signs_run w.signs 0 count frames w.counted ∙ ap (λ n. Some (phases.Signs n, frames)) zero_more in
-    ap (ran (phases.Signs 0, frames)) w.both ∙ ran_through (phases.Signs 0, frames) (phases.Signs count, frames) (phases.After (negated count tree), frames) w.signs w.operand front (taken w.operand w.own count frames)
+    ap (ran (phases.Signs 0, frames)) w.both ∙ ran_through (phases.Signs 0, frames) (phases.Signs count, frames) (phases.After (signed_node count tree), frames) w.signs w.operand front (taken w.operand w.own count frames)
 
 -- an operand alone stands there with no signs
 alone_run : (Operand : List Token → Type 0) (tree : Node) (written : List Token) → ((own : List Token) → Operand own → IsTakenAlone tree own) → IsSigned 5 0 Operand written → IsTakenAlone tree written
@@ -88,10 +88,10 @@ operand_taken tree Operand to taken = record {
 }
 
 -- a tree of one token
-pub token_taken : (tree : Node) (token : Token) → ((place : ℕ) (written : List Token) → IsWritten tree place written → IsSigned place 0 (λ operand. operand ≡ token ∷ []) written) → ((minuses : ℕ) (frames : List Frame) → operand_turn minuses frames token ≡ Some (phases.After (negated minuses tree), frames)) → AreTaken tree
+pub token_taken : (tree : Node) (token : Token) → ((place : ℕ) (written : List Token) → IsWritten tree place written → IsSigned place 0 (λ operand. operand ≡ token ∷ []) written) → ((minuses : ℕ) (frames : List Frame) → operand_turn minuses frames token ≡ Some (phases.After (signed_node minuses tree), frames)) → AreTaken tree
 token_taken tree token to turn = operand_taken tree (λ operand. operand ≡ token ∷ []) to (λ own e minuses frames. ap (ran (phases.Signs minuses, frames)) e ∙ token_run minuses frames (operand_turn minuses frames token) (turn minuses frames))
   where
-    token_run : (minuses : ℕ) (frames : List Frame) (o : Option Turn) → o ≡ Some (phases.After (negated minuses tree), frames) → option_and_then (λ (next : Turn). ran next []) o ≡ Some (phases.After (negated minuses tree), frames)
+    token_run : (minuses : ℕ) (frames : List Frame) (o : Option Turn) → o ≡ Some (phases.After (signed_node minuses tree), frames) → option_and_then (λ (next : Turn). ran next []) o ≡ Some (phases.After (signed_node minuses tree), frames)
     token_run minuses frames o e = ap (λ (o : Option Turn). option_and_then (λ (next : Turn). ran next []) o) e
 
 -- ---- parentheses
@@ -104,8 +104,8 @@ pub parentheses_run : (tree : Node) (own : List Token) → AreTaken tree → IsE
 parentheses_run tree own taken w minuses frames =
     let frame = opened_frame opened.Parentheses minuses (calls_open frames) in
     let inner = taken.placed 0 w.0 (omega arith) w.2 frame frames [] tt in
-    let whole = ap (λ node. Some (phases.After (negated minuses (nodes.Parentheses node)), frames)) inner.ends in
-    ap (ran (phases.Signs minuses, frames)) w.1 ∙ ran_through (phases.Signs 0, with_chains frame frames []) (phases.After inner.operand, with_chains frame frames inner.left) (phases.After (negated minuses (nodes.Parentheses tree)), frames) w.0 (tokens.Close ∷ []) inner.runs whole
+    let whole = ap (λ node. Some (phases.After (signed_node minuses (nodes.Parentheses node)), frames)) inner.ends in
+    ap (ran (phases.Signs minuses, frames)) w.1 ∙ ran_through (phases.Signs 0, with_chains frame frames []) (phases.After inner.operand, with_chains frame frames inner.left) (phases.After (signed_node minuses (nodes.Parentheses tree)), frames) w.0 (tokens.Close ∷ []) inner.runs whole
 
 -- ---- calls
 -- directly behind a name and `(` the turns go as behind no sign
@@ -127,22 +127,22 @@ comma_run name done minuses calls frames last x rest room e =
     ∙ ap (λ node. ran (phases.Signs 0, with_frame (opened.Call name (done ++ node ∷ [])) minuses calls frames) rest) e
 
 -- the arguments of a call behind those that are done, and its `)`
-arguments_run : (xs : List Node) (x : Node) (done : List Node) (name : Name) (minuses calls : ℕ) (frames : List Frame) (inner : List Token) → All AreTaken (x ∷ xs) → length done + length (x ∷ xs) ≤ 255 → AreArguments (map IsWritten (x ∷ xs)) inner → ran (phases.Signs 0, with_frame (opened.Call name done) minuses calls frames) (inner ++ tokens.Close ∷ []) ≡ Some (phases.After (negated minuses (nodes.Call name (done ++ x ∷ xs))), frames)
+arguments_run : (xs : List Node) (x : Node) (done : List Node) (name : Name) (minuses calls : ℕ) (frames : List Frame) (inner : List Token) → All AreTaken (x ∷ xs) → length done + length (x ∷ xs) ≤ 255 → AreArguments (map IsWritten (x ∷ xs)) inner → ran (phases.Signs 0, with_frame (opened.Call name done) minuses calls frames) (inner ++ tokens.Close ∷ []) ≡ Some (phases.After (signed_node minuses (nodes.Call name (done ++ x ∷ xs))), frames)
 arguments_run [] x done name minuses calls frames inner each few w =
     let frame = opened_frame (opened.Call name done) minuses calls in
     let taken = All-head AreTaken x [] each in
     let last = taken.placed 0 inner (omega arith) w frame frames [] tt in
-    let whole = ap (λ node. Some (phases.After (negated minuses (nodes.Call name (done ++ node ∷ []))), frames)) last.ends in
-    ran_through (phases.Signs 0, with_chains frame frames []) (phases.After last.operand, with_chains frame frames last.left) (phases.After (negated minuses (nodes.Call name (done ++ x ∷ []))), frames) inner (tokens.Close ∷ []) last.runs whole
+    let whole = ap (λ node. Some (phases.After (signed_node minuses (nodes.Call name (done ++ node ∷ []))), frames)) last.ends in
+    ran_through (phases.Signs 0, with_chains frame frames []) (phases.After last.operand, with_chains frame frames last.left) (phases.After (signed_node minuses (nodes.Call name (done ++ x ∷ []))), frames) inner (tokens.Close ∷ []) last.runs whole
 arguments_run (y ∷ ys) x done name minuses calls frames inner each few w =
     let frame = opened_frame (opened.Call name done) minuses calls in
     let taken = All-head AreTaken x (y ∷ ys) each in
     let one = taken.placed 0 w.0 (omega arith) w.3 frame frames [] tt in
     let more = length-append done (x ∷ []) in
     let rest = arguments_run ys y (done ++ x ∷ []) name minuses calls frames w.1 (All-tail AreTaken x (y ∷ ys) each) (omega (arith, more)) w.4 in
-    let room = room_is_left done (finished one.operand one.left) (length ys) name (omega arith) in
-    let step = comma_run name done minuses calls frames (finished one.operand one.left) x (w.1 ++ tokens.Close ∷ []) room one.ends in
-    let whole = ap (λ arguments. Some (phases.After (negated minuses (nodes.Call name arguments)), frames)) (append_assoc done (x ∷ []) (y ∷ ys)) in
+    let room = room_is_left done (tree_of_chains one.operand one.left) (length ys) name (omega arith) in
+    let step = comma_run name done minuses calls frames (tree_of_chains one.operand one.left) x (w.1 ++ tokens.Close ∷ []) room one.ends in
+    let whole = ap (λ arguments. Some (phases.After (signed_node minuses (nodes.Call name arguments)), frames)) (append_assoc done (x ∷ []) (y ∷ ys)) in
     ap (λ v. ran (phases.Signs 0, with_chains frame frames []) (v ++ tokens.Close ∷ [])) w.2
     ∙ ap (ran (phases.Signs 0, with_chains frame frames [])) (append_assoc w.0 (tokens.Comma ∷ w.1) (tokens.Close ∷ []))
     ∙ ran_behind (phases.Signs 0, with_chains frame frames []) (phases.After one.operand, with_chains frame frames one.left) w.0 (tokens.Comma ∷ (w.1 ++ tokens.Close ∷ [])) one.runs
@@ -155,4 +155,4 @@ pub call_run : (name : Name) (arguments : List Node) (own : List Token) → All 
 call_run name [] own each w minuses frames = ap (ran (phases.Signs minuses, frames)) (w.1.1 ∙ ap (λ inner. tokens.Call name ∷ (inner ++ tokens.Close ∷ [])) w.1.2)
 call_run name (x ∷ xs) own each w minuses frames =
     let few : length {A = Node} [] + length (x ∷ xs) ≤ 255 = omega (arith, w.0) in
-    ap (ran (phases.Signs minuses, frames)) w.1.1 ∙ start_run (with_frame (opened.Call name []) minuses (suc (calls_open frames)) frames) frames (w.1.0 ++ tokens.Close ∷ []) (negated minuses (nodes.Call name (x ∷ xs))) (arguments_run xs x [] name minuses (suc (calls_open frames)) frames w.1.0 each few w.1.2)
+    ap (ran (phases.Signs minuses, frames)) w.1.1 ∙ start_run (with_frame (opened.Call name []) minuses (suc (calls_open frames)) frames) frames (w.1.0 ++ tokens.Close ∷ []) (signed_node minuses (nodes.Call name (x ∷ xs))) (arguments_run xs x [] name minuses (suc (calls_open frames)) frames w.1.0 each few w.1.2)

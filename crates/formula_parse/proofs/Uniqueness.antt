@@ -6,7 +6,7 @@ use Rattle.formula_parse.specs.declared.nodes.Node.{Node}
 use Rattle.formula_parse.specs.declared.reader.Reader.{Reader}
 use Rattle.formula_parse.specs.declared.tokens.Token.{Token}
 use Rattle.formula_parse.specs.Faults.{IsUnlimitedFormula}
-use Rattle.formula_parse.specs.Reading.{Turn, ended, first_reader}
+use Rattle.formula_parse.specs.Reading.{Turn, tree_at_end, first_reader}
 use Rattle.formula_parse.specs.Tokens.{IsSpelled, are_spaces}
 use Rattle.formula_parse.proofs.Machine.{first_turn, ran, ended_behind}
 use Rattle.formula_parse.proofs.MachineLaws.{what_is_written_is_read}
@@ -45,7 +45,7 @@ spelled_rest text us tree f = subst (λ t. IsSpelled t us) (tails 61 61 f.rest t
 -- a formula's tokens and its tree are those that were read, where the text was read to its end
 pub record AgreesWith (ts : List Token) (last : Reader) (us : List Token) (tree : Node) : Type 0 where
   pub same_tokens : us ≡ ts
-  pub same_tree : ended last.phase last.frames ≡ Some tree
+  pub same_tree : tree_at_end last.phase last.frames ≡ Some tree
 
 pub formula_agrees : (front rest : List ℕ) (ts us : List Token) (last : Reader) (tree : Node) → Reads first_reader front rest ts last → are_spaces rest ≡ true → IsUnlimitedFormula (61 ∷ (front ++ rest)) us tree → AgreesWith ts last us tree
 formula_agrees front rest ts us last tree r s f =

@@ -3,7 +3,7 @@ use Rattle.std.specs.Prelude.{ℕ, unsigned_abs, List, [], ◌∷◌, ◌++◌, 
 use Rattle.std.specs.List.{flat_map}
 use Rattle.cell_refs.specs.Written.{reference_text}
 use Rattle.cell_values.specs.Error.{error_word}
-use Rattle.cell_values.specs.Word.{quoted}
+use Rattle.cell_values.specs.Word.{quotation_of}
 use Rattle.formula_parse.specs.declared.nodes.Node.{Node}
 use Rattle.formula_parse.specs.declared.nodes.Node.TheFolds.{fold-Node}
 use Rattle.formula_parse.specs.declared.nodes.Node.TheOpen.{Node-F}
@@ -17,7 +17,7 @@ use Rattle.formula_parse.specs.Tokens.{boolean_word, operator_text}
 -- a token in its canonical form
 abbrev pub token_text : Token → List ℕ
 token_text (tokens.Number n) = decimal (unsigned_abs n)
-token_text (tokens.Text t) = quoted t
+token_text (tokens.Text t) = quotation_of t
 token_text (tokens.Error e) = error_word e
 token_text (tokens.Boolean b) = boolean_word b
 token_text (tokens.Reference r) = reference_text r
@@ -29,16 +29,16 @@ token_text tokens.Comma = codes ","
 token_text (tokens.Operator op) = operator_text op
 
 -- arguments with a `,` between each two
-abbrev pub separated : List (List Token) → List Token
-separated [] = []
-separated (argument ∷ []) = argument
-separated (argument ∷ next ∷ arguments) = argument ++ tokens.Comma ∷ separated (next ∷ arguments)
+abbrev pub argument_tokens : List (List Token) → List Token
+argument_tokens [] = []
+argument_tokens (argument ∷ []) = argument
+argument_tokens (argument ∷ next ∷ arguments) = argument ++ tokens.Comma ∷ argument_tokens (next ∷ arguments)
 
 -- operands with their operators between them
-abbrev pub interleaved : List (List Token) → List Operator → List Token
-interleaved [] ops = []
-interleaved (operand ∷ operands) [] = operand
-interleaved (operand ∷ operands) (op ∷ ops) = operand ++ tokens.Operator op ∷ interleaved operands ops
+abbrev pub chain_tokens : List (List Token) → List Operator → List Token
+chain_tokens [] ops = []
+chain_tokens (operand ∷ operands) [] = operand
+chain_tokens (operand ∷ operands) (op ∷ ops) = operand ++ tokens.Operator op ∷ chain_tokens operands ops
 
 -- the tokens of one part of a tree, over those of its parts
 abbrev pub tokens_step : Node-F (List Token) → List Token
@@ -48,15 +48,15 @@ tokens_step (layer.Error e) = tokens.Error e ∷ []
 tokens_step (layer.Boolean b) = tokens.Boolean b ∷ []
 tokens_step (layer.Reference r) = tokens.Reference r ∷ []
 tokens_step (layer.Area a b) = tokens.Area a b ∷ []
-tokens_step (layer.Call name arguments) = tokens.Call name ∷ (separated arguments ++ tokens.Close ∷ [])
+tokens_step (layer.Call name arguments) = tokens.Call name ∷ (argument_tokens arguments ++ tokens.Close ∷ [])
 tokens_step (layer.Parentheses inner) = tokens.Open ∷ (inner ++ tokens.Close ∷ [])
 tokens_step (layer.Negation count operand) = replicate count (tokens.Operator operators.Subtract) ++ operand
-tokens_step (layer.Chain operands ops) = interleaved operands ops
+tokens_step (layer.Chain operands ops) = chain_tokens operands ops
 
 -- the tokens of a tree, without any `+` before an operand
 abbrev pub tokens_of : Node → List Token
 tokens_of = fold-Node (List Token) tokens_step
 
 -- the canonical text of a tree
-unfoldable pub printed : Node → List ℕ
-printed tree = 61 ∷ flat_map token_text (tokens_of tree)
+unfoldable pub canonical_text : Node → List ℕ
+canonical_text tree = 61 ∷ flat_map token_text (tokens_of tree)

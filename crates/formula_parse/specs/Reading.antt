@@ -22,8 +22,8 @@ use Rattle.formula_parse.specs.Grammar.{place_of}
 use Rattle.formula_parse.specs.Lexing.{token_at, begun_len}
 
 -- an operand behind signs of which so many are `-`
-abbrev pub negated : ℕ → Node → Node
-negated count operand = if count == 0 then operand else nodes.Negation count operand
+abbrev pub signed_node : ℕ → Node → Node
+signed_node count operand = if count == 0 then operand else nodes.Negation count operand
 
 -- the place of a chain: that of its operators
 abbrev pub place_of_chain : OpenChain → ℕ
@@ -34,8 +34,8 @@ place_of_chain chain = place_of_first chain.operators
     place_of_first (op ∷ ops) = place_of op
 
 -- a chain with its last operand
-abbrev pub closed : OpenChain → Node → Node
-closed chain last = nodes.Chain (chain.operands ++ last ∷ []) chain.operators
+abbrev pub chain_node : OpenChain → Node → Node
+chain_node chain last = nodes.Chain (chain.operands ++ last ∷ []) chain.operators
 
 -- whether the tightest chain is tighter than a place
 abbrev pub is_tighter : ℕ → List OpenChain → Bool
@@ -43,26 +43,26 @@ is_tighter place [] = false
 is_tighter place (chain ∷ chains) = nat_lt place (place_of_chain chain)
 
 -- an operand with the chains closed round it that are tighter than a place, and the other chains
-abbrev pub bound : ℕ → Node → List OpenChain → Node × List OpenChain
-bound place operand [] = (operand, [])
-bound place operand (chain ∷ chains) = if nat_lt place (place_of_chain chain) then bound place (closed chain operand) chains else (operand, chain ∷ chains)
+abbrev pub operand_in_chains : ℕ → Node → List OpenChain → Node × List OpenChain
+operand_in_chains place operand [] = (operand, [])
+operand_in_chains place operand (chain ∷ chains) = if nat_lt place (place_of_chain chain) then operand_in_chains place (chain_node chain operand) chains else (operand, chain ∷ chains)
 
 -- an operand with all chains closed round it
-abbrev pub finished : Node → List OpenChain → Node
-finished operand [] = operand
-finished operand (chain ∷ chains) = finished (closed chain operand) chains
+abbrev pub tree_of_chains : Node → List OpenChain → Node
+tree_of_chains operand [] = operand
+tree_of_chains operand (chain ∷ chains) = tree_of_chains (chain_node chain operand) chains
 
 -- the chains with an operand and the operator behind it, where none is tighter than the operator
-abbrev pub chained : Operator → Node × List OpenChain → List OpenChain
-chained op (operand, []) = (record { operands = operand ∷ []; operators = op ∷ [] }) ∷ []
-chained op (operand, chain ∷ chains) =
+abbrev pub chains_with : Operator → Node × List OpenChain → List OpenChain
+chains_with op (operand, []) = (record { operands = operand ∷ []; operators = op ∷ [] }) ∷ []
+chains_with op (operand, chain ∷ chains) =
     if place_of_chain chain == place_of op
     then (record { operands = chain.operands ++ operand ∷ []; operators = chain.operators ++ op ∷ [] }) ∷ chains
     else (record { operands = operand ∷ []; operators = op ∷ [] }) ∷ chain ∷ chains
 
 -- the chains with an operand and the operator behind it
-abbrev pub joined : Node → Operator → List OpenChain → List OpenChain
-joined operand op chains = chained op (bound (place_of op) operand chains)
+abbrev pub chains_behind : Node → Operator → List OpenChain → List OpenChain
+chains_behind operand op chains = chains_with op (operand_in_chains (place_of op) operand chains)
 
 -- the operand that a token is by itself
 abbrev pub operand_of : Token → Option Node
@@ -105,7 +105,7 @@ Turn = Phase × List Frame
 
 -- an operand, behind its signs, or none
 abbrev pub after_operand : ℕ → List Frame → Option Node → Option Turn
-after_operand minuses frames operand = option_map (λ node. (phases.After (negated minuses node), frames)) operand
+after_operand minuses frames operand = option_map (λ node. (phases.After (signed_node minuses node), frames)) operand
 
 -- a token where an operand or a sign may stand, behind so many `-`
 abbrev pub operand_turn : ℕ → List Frame → Token → Option Turn
@@ -121,7 +121,7 @@ empty_call [] = None
 empty_call (frame ∷ frames) = empty_call_of frame.opened frame.minuses frames
   where
     empty_call_of : Opened → ℕ → List Frame → Option Turn
-    empty_call_of (opened.Call name arguments) minuses frames = Some (phases.After (negated minuses (nodes.Call name arguments)), frames)
+    empty_call_of (opened.Call name arguments) minuses frames = Some (phases.After (signed_node minuses (nodes.Call name arguments)), frames)
     empty_call_of opened.Formula minuses frames = None
     empty_call_of opened.Parentheses minuses frames = None
 
@@ -133,7 +133,7 @@ start_turn frames other = operand_turn 0 frames other
 -- an operator behind an operand
 abbrev pub operator_turn : Node → Operator → List Frame → Option Turn
 operator_turn operand op [] = None
-operator_turn operand op (frame ∷ frames) = Some (phases.Signs 0, record frame { chains = joined operand op frame.chains } ∷ frames)
+operator_turn operand op (frame ∷ frames) = Some (phases.Signs 0, record frame { chains = chains_behind operand op frame.chains } ∷ frames)
 
 -- what a `)` makes of what is open, whose last part this is
 abbrev pub closing : Opened → Node → Option Node
@@ -144,7 +144,7 @@ closing (opened.Call name arguments) last = Some (nodes.Call name (arguments ++ 
 -- a `)` behind an operand
 abbrev pub close_turn : Node → List Frame → Option Turn
 close_turn operand [] = None
-close_turn operand (frame ∷ frames) = after_operand frame.minuses frames (closing frame.opened (finished operand frame.chains))
+close_turn operand (frame ∷ frames) = after_operand frame.minuses frames (closing frame.opened (tree_of_chains operand frame.chains))
 
 -- a call with one more argument, where a further one may follow
 abbrev pub with_argument : Opened → Node → Option Opened
@@ -155,7 +155,7 @@ with_argument (opened.Call name arguments) last = if nat_lt (length arguments) 2
 -- a `,` behind an operand
 abbrev pub comma_turn : Node → List Frame → Option Turn
 comma_turn operand [] = None
-comma_turn operand (frame ∷ frames) = option_map (λ what. (phases.Signs 0, with_frame what frame.minuses frame.calls frames)) (with_argument frame.opened (finished operand frame.chains))
+comma_turn operand (frame ∷ frames) = option_map (λ what. (phases.Signs 0, with_frame what frame.minuses frame.calls frames)) (with_argument frame.opened (tree_of_chains operand frame.chains))
 
 -- a token behind an operand
 abbrev pub after_turn : Node → List Frame → Token → Option Turn
@@ -171,8 +171,8 @@ turn_at (phases.Signs minuses) frames token = operand_turn minuses frames token
 turn_at (phases.After operand) frames token = after_turn operand frames token
 
 -- the reader behind a token, where some formula goes on with it
-unfoldable pub stepped : Reader → Token → Option Reader
-stepped reader token =
+unfoldable pub reader_behind : Reader → Token → Option Reader
+reader_behind reader token =
     option_map (λ turn. record {
       phase = turn.0;
       frames = turn.1;
@@ -194,16 +194,16 @@ abbrev pub is_too_deep : List Frame → Bool
 is_too_deep frames = nat_lt 64 (calls_open frames) || nat_lt 129 (length frames)
 
 -- the whole formula, where nothing else is open
-abbrev pub whole : Node → List Frame → Option Node
-whole operand [] = None
-whole operand (frame ∷ []) = Some (finished operand frame.chains)
-whole operand (frame ∷ other ∷ frames) = None
+abbrev pub whole_tree : Node → List Frame → Option Node
+whole_tree operand [] = None
+whole_tree operand (frame ∷ []) = Some (tree_of_chains operand frame.chains)
+whole_tree operand (frame ∷ other ∷ frames) = None
 
 -- the formula's tree, where it may end here
-abbrev pub ended : Phase → List Frame → Option Node
-ended phases.Start frames = None
-ended (phases.Signs minuses) frames = None
-ended (phases.After operand) frames = whole operand frames
+abbrev pub tree_at_end : Phase → List Frame → Option Node
+tree_at_end phases.Start frames = None
+tree_at_end (phases.Signs minuses) frames = None
+tree_at_end (phases.After operand) frames = whole_tree operand frames
 
 -- whether an operand is awaited
 abbrev pub awaits_operand : Phase → Bool
@@ -216,8 +216,8 @@ abbrev pub begun_behind : Phase → List ℕ → ℕ
 begun_behind phase text = if awaits_operand phase then begun_len text else 0
 
 -- the tree of a formula within the limits, or the fault
-abbrev pub judged : Reader → Node → Result Node ParseFault
-judged reader tree = if reader.has_wide_area then Err faults.BadRange else (if reader.has_large_number then Err faults.NumberTooLarge else Ok tree)
+abbrev pub tree_or_fault : Reader → Node → Result Node ParseFault
+tree_or_fault reader tree = if reader.has_wide_area then Err faults.BadRange else (if reader.has_large_number then Err faults.NumberTooLarge else Ok tree)
 
 -- the spaces at the front of a text
 abbrev pub gap_len : List ℕ → ℕ
@@ -226,7 +226,7 @@ gap_len text = length (take_while (λ b. b == 32) text)
 -- what the end of the text gives, at this place
 abbrev pub at_end : Reader → ℕ → Option Node → Result Node ParseFault
 at_end reader place None = Err (faults.Syntax place)
-at_end reader place (Some tree) = judged reader tree
+at_end reader place (Some tree) = tree_or_fault reader tree
 
 -- what a token, or the end of the text, comes to: an answer, or the reader behind the token with its place and the text behind it
 pub data Read : Type 0 where
@@ -241,11 +241,11 @@ read_on reader place text len (Some next) = if is_too_deep next.frames then Answ
 -- the token at the front of a text, where there is one
 abbrev pub read_found : Reader → ℕ → List ℕ → Option (Token × ℕ) → Read
 read_found reader place text None = Answer (Err (faults.Syntax (place + begun_behind reader.phase text)))
-read_found reader place text (Some found) = read_on reader place text found.1 (stepped reader found.0)
+read_found reader place text (Some found) = read_on reader place text found.1 (reader_behind reader found.0)
 
 -- the front of a text behind its spaces
 abbrev pub read_token : Reader → ℕ → List ℕ → Read
-read_token reader place [] = Answer (at_end reader place (ended reader.phase reader.frames))
+read_token reader place [] = Answer (at_end reader place (tree_at_end reader.phase reader.frames))
 read_token reader place (b ∷ bs) = read_found reader place (b ∷ bs) (token_at (b ∷ bs))
 
 -- the front of a text
@@ -253,14 +253,14 @@ abbrev pub read_next : Reader → ℕ → List ℕ → Read
 read_next reader place text = read_token reader (place + gap_len text) (drop (gap_len text) text)
 
 -- the answer, or what is read on
-abbrev pub followed : (Reader → ℕ → List ℕ → Result Node ParseFault) → Read → Result Node ParseFault
-followed onward (Answer answer) = answer
-followed onward (Onward reader place text) = onward reader place text
+abbrev pub answer_behind : (Reader → ℕ → List ℕ → Result Node ParseFault) → Read → Result Node ParseFault
+answer_behind onward (Answer answer) = answer
+answer_behind onward (Onward reader place text) = onward reader place text
 
 -- what is read behind the reader, from this place on, of a text of less than so many tokens
 abbrev pub read_from : ℕ → Reader → ℕ → List ℕ → Result Node ParseFault
 read_from zero reader place text = Err (faults.Syntax place)
-read_from (suc fuel) reader place text = followed (read_from fuel) (read_next reader place text)
+read_from (suc fuel) reader place text = answer_behind (read_from fuel) (read_next reader place text)
 
 -- the tree of a text of any length, or its first fault
 abbrev pub read_text : List ℕ → Result Node ParseFault
@@ -272,9 +272,9 @@ abbrev pub is_too_long : List ℕ → Bool
 is_too_long text = nat_lt 8192 (length (chars text))
 
 -- the tree of the formula that a text is, or the first fault of the text
-unfoldable pub parsed : List ℕ → Result Node ParseFault
-parsed text = if is_too_long text then Err faults.TooLong else read_text text
+unfoldable pub parse_result : List ℕ → Result Node ParseFault
+parse_result text = if is_too_long text then Err faults.TooLong else read_text text
 
 -- the tree of the formula that a text is
 unfoldable pub formula_of : List ℕ → Option Node
-formula_of text = if is_utf8 text then result_ok (parsed text) else None
+formula_of text = if is_utf8 text then result_ok (parse_result text) else None

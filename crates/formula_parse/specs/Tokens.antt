@@ -7,7 +7,7 @@ use Rattle.cell_refs.specs.Written.{reference_at, capitals}
 use Rattle.cell_values.specs.declared.comparison.CompareOp.TheVariants as compare
 use Rattle.cell_values.specs.Error.{error_word}
 use Rattle.cell_values.specs.Name.{is_name, is_name_byte}
-use Rattle.cell_values.specs.Word.{quoted}
+use Rattle.cell_values.specs.Word.{quotation_of}
 use Rattle.formula_parse.specs.declared.operators.Operator.{Operator}
 use Rattle.formula_parse.specs.declared.operators.Operator.TheVariants as operators
 use Rattle.formula_parse.specs.declared.tokens.Token.{Token}
@@ -39,7 +39,7 @@ operator_text operators.Divide = codes "/"
 -- a piece of text writes a token: digits a number, a quoted text without control characters a text, an error word in any case an error, `TRUE` or `FALSE` in any case a boolean, a reference inside the grid itself, two with a `:` between them and no sheet at the second an area, a name and `(` a call of the name in upper case
 abbrev pub Writes : List ℕ → Token → Type 0
 Writes piece (tokens.Number n) = IsNumeral 10 piece × (n ≡ number_value piece)
-Writes piece (tokens.Text t) = (piece ≡ quoted t) × (list_any is_ascii_control t ≡ false)
+Writes piece (tokens.Text t) = (piece ≡ quotation_of t) × (list_any is_ascii_control t ≡ false)
 Writes piece (tokens.Error e) = capitals piece ≡ error_word e
 Writes piece (tokens.Boolean b) = capitals piece ≡ boolean_word b
 Writes piece (tokens.Reference r) = reference_at piece ≡ Some (r, length piece)

@@ -17,8 +17,8 @@ abbrev pub IsTree : Node → Type 0
 IsTree tree = (text : List ℕ) × IsFormula text tree
 
 -- lists one behind the other
-abbrev pub chained : {A : Type 0} → List (List A) → List A
-chained lists = flat_map (λ xs. xs) lists
+abbrev pub concat : {A : Type 0} → List (List A) → List A
+concat lists = flat_map (λ xs. xs) lists
 
 -- the areas of one part of a tree, over those of its parts
 abbrev pub areas_step : ℕ → Node-F (List Area) → List Area
@@ -28,10 +28,10 @@ areas_step home (layer.Error e) = []
 areas_step home (layer.Boolean b) = []
 areas_step home (layer.Reference r) = area_of r r home ∷ []
 areas_step home (layer.Area a b) = area_of a b home ∷ []
-areas_step home (layer.Call name arguments) = chained arguments
+areas_step home (layer.Call name arguments) = concat arguments
 areas_step home (layer.Parentheses inner) = inner
 areas_step home (layer.Negation count operand) = operand
-areas_step home (layer.Chain operands operators) = chained operands
+areas_step home (layer.Chain operands operators) = concat operands
 
 -- the areas that a formula on the sheet home names: one for each written reference or area, from left to right
 abbrev pub areas_named : Node → ℕ → List Area
@@ -53,10 +53,10 @@ calls_step (layer.Error e) = []
 calls_step (layer.Boolean b) = []
 calls_step (layer.Reference r) = []
 calls_step (layer.Area a b) = []
-calls_step (layer.Call name arguments) = if is_built_in name then chained arguments else name ∷ chained arguments
+calls_step (layer.Call name arguments) = if is_built_in name then concat arguments else name ∷ concat arguments
 calls_step (layer.Parentheses inner) = inner
 calls_step (layer.Negation count operand) = operand
-calls_step (layer.Chain operands operators) = chained operands
+calls_step (layer.Chain operands operators) = concat operands
 
 -- the names that are neither built in nor `RTD`, one for each call of them, by the place of the name in the text
 abbrev pub sites_named : Node → List (List ℕ)

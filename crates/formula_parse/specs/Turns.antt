@@ -6,10 +6,10 @@ use Rattle.formula_parse.specs.declared.parser.Read.TheVariants.{Formula, Token}
 use Rattle.formula_parse.specs.Reading.{Read as Said, Answer, Onward, minuses_in, is_too_deep}
 
 -- a turn in a text as it is told: an answer, or the reader, its place and the text behind it
-abbrev pub told : List ℕ → Result Read ParseFault → Said
-told text (Err fault) = Answer (Err fault)
-told text (Ok (Formula root)) = Answer (Ok root)
-told text (Ok (Token reader place)) = Onward reader place (drop place text)
+abbrev pub read_of : List ℕ → Result Read ParseFault → Said
+read_of text (Err fault) = Answer (Err fault)
+read_of text (Ok (Formula root)) = Answer (Ok root)
+read_of text (Ok (Token reader place)) = Onward reader place (drop place text)
 
 -- a place up to the end of a text, before which there are no fewer bytes than the reader has `-`; and it isn't too deep
 abbrev pub IsBefore : ℕ → Read → Type 0

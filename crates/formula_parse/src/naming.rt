@@ -1,6 +1,6 @@
 ghost use Rattle.std.specs.Prelude.{◌≡◌, ◌≤◌, [], ◌∷◌, ◌++◌, length, map, min, All, IfOk, OnOk};
 ghost use Rattle.cell_refs.specs.Area.{IsArea, size_of};
-ghost use Rattle.formula_parse.specs.Tree.{areas_named, chained, is_built_in, site_count, sites_named};
+ghost use Rattle.formula_parse.specs.Tree.{areas_named, concat, is_built_in, site_count, sites_named};
 
 use super::nodes::Node;
 use super::trees::Tree;
@@ -40,7 +40,8 @@ fn push_areas(node: &Node, home: u8, areas: &mut Vec<Area>) -> Result<(), Memory
 /// Adds the areas that several parts of a formula name.
 #[cycle(push_areas)]
 fn push_all_areas(nodes: &[Node], home: u8, areas: &mut Vec<Area>) -> Result<(), Memory>
-    ensures { OnOk result (areas.new.items ≡ areas.old.items ++ chained (map (λ node. areas_named node home) nodes.now)) }
+    ensures { OnOk result (areas.new.items ≡ areas.old.items
+        ++ concat (map (λ node. areas_named node home) nodes.now)) }
 {
     for node in nodes {
         push_areas(node, home, areas)?;
@@ -89,7 +90,7 @@ fn count_sites(node: &Node) -> u16
 /// How many such calls several parts of a formula have; 65,535 stands for more, too.
 #[cycle(count_sites)]
 fn count_all_sites(nodes: &[Node]) -> u16
-    ensures { result ≡ min (length (chained (map sites_named nodes.now))) 65535 }
+    ensures { result ≡ min (length (concat (map sites_named nodes.now))) 65535 }
 {
     let mut count: u16 = 0;
     for node in nodes {

@@ -2,8 +2,8 @@ ghost use Rattle.std.specs.Prelude.{◌≡◌, ◌⊎◌, ◌↔◌, ◌<◌, �
 ghost use Rattle.formula_parse.specs.Lexing.{begun_len};
 ghost use Rattle.std.specs.Str.{chars};
 ghost use Rattle.formula_parse.specs.Faults.{IsFormula, IsShort, IsTooDeep, IsSyntaxFault, IsRangeFault, IsNumberFault};
-ghost use Rattle.formula_parse.specs.Reading.{formula_of, is_too_long, parsed, read_text, read_from, read_next, at_end, ended, gap_len, first_reader, begun_behind, minuses_in, is_too_deep, Answer};
-ghost use Rattle.formula_parse.specs.Turns.{told, IsBefore, IsFormulaRead};
+ghost use Rattle.formula_parse.specs.Reading.{formula_of, is_too_long, parse_result, read_text, read_from, read_next, at_end, tree_at_end, gap_len, first_reader, begun_behind, minuses_in, is_too_deep, Answer};
+ghost use Rattle.formula_parse.specs.Turns.{read_of, IsBefore, IsFormulaRead};
 
 use super::faults::ParseFault;
 use super::lexing::{begun_len, stands_at, token_at};
@@ -25,18 +25,19 @@ pub(crate) enum Read {
 const CHARACTERS: usize = 8_192;
 
 /// The tree of the formula that the text is.
-#[tactic(auto, unfolding(crate::specs::Reading::parsed))]
+#[tactic(auto, unfolding(crate::specs::Reading::parse_result))]
 pub fn parse(alloc: Global, text: &str) -> Result<Tree, ParseFault>
     ensures ok { IfOk result (λ tree. IsFormula text.now tree) }
     ensures read { IfOk result (λ tree. formula_of text.now ≡ Some tree) }
     ensures too_long { (result ≡ Err ParseFault.TooLong) ↔ (8192 < length (chars text.now)) }
     ensures too_deep { result ≡ Err ParseFault.TooDeep → IsShort text.now × IsTooDeep text.now }
-    ensures syntax { (place : ℕ) → result ≡ Err (ParseFault.Syntax place) → IsSyntaxFault text.now place }
+    ensures syntax { (place : ℕ) → result ≡ Err (ParseFault.Syntax place)
+        → IsSyntaxFault text.now place }
     ensures bad_range { result ≡ Err ParseFault.BadRange → IsRangeFault text.now }
     ensures number_too_large { result ≡ Err ParseFault.NumberTooLarge → IsNumberFault text.now }
 
     // Which of these it is, unless memory runs out.
-    ensures exact { (result ≡ Err ParseFault.Memory) ⊎ (result ≡ parsed text.now) }
+    ensures exact { (result ≡ Err ParseFault.Memory) ⊎ (result ≡ parse_result text.now) }
 {
     if has_too_many_characters(text) {
         return Err(ParseFault::TooLong);
@@ -78,7 +79,8 @@ fn read_next(alloc: Global, text: &str, reader: Reader, place: usize) -> Result<
     requires within { place ≤ length text.now }
     requires few { minuses_in reader.phase ≤ place }
     requires shallow { is_too_deep reader.frames ≡ false }
-    ensures value { (result ≡ Err ParseFault.Memory) ⊎ (told text.now result ≡ read_next reader place (drop place text.now)) }
+    ensures value { (result ≡ Err ParseFault.Memory)
+        ⊎ (read_of text.now result ≡ read_next reader place (drop place text.now)) }
     ensures on { IfOk result (IsBefore (length text.now)) }
 {
     let place = place + gap_len(&text.as_bytes()[place..]);
@@ -99,7 +101,8 @@ fn read_next(alloc: Global, text: &str, reader: Reader, place: usize) -> Result<
 /// The fault where no formula goes on with what stands at a place.
 fn fault_at(reader: &Reader, text: &str, place: usize) -> ParseFault
     requires { place ≤ length text.now }
-    ensures { result ≡ ParseFault.Syntax (place + begun_behind reader.now.phase (drop place text.now)) }
+    ensures { result ≡ ParseFault.Syntax (place + begun_behind reader.now.phase
+        (drop place text.now)) }
 {
     fault_where(reader.awaits_operand(), text, place)
 }
@@ -107,7 +110,8 @@ fn fault_at(reader: &Reader, text: &str, place: usize) -> ParseFault
 /// The fault at a place where no formula goes on, which an operand may have begun.
 fn fault_where(awaits_operand: bool, text: &str, place: usize) -> ParseFault
     requires { place ≤ length text.now }
-    ensures { result ≡ ParseFault.Syntax (place + (if awaits_operand then begun_len (drop place text.now) else 0)) }
+    ensures { result ≡ ParseFault.Syntax (place +
+        (if awaits_operand then begun_len (drop place text.now) else 0)) }
 {
     let begun = if awaits_operand {
         begun_len(&text.as_bytes()[place..])
@@ -119,7 +123,9 @@ fn fault_where(awaits_operand: bool, text: &str, place: usize) -> ParseFault
 
 /// The formula that ends at a place, or its fault.
 fn read_end(reader: Reader, place: usize) -> Result<Read, ParseFault>
-    ensures value { (result ≡ Err ParseFault.Memory) ⊎ (told [] result ≡ Answer (at_end reader place (ended reader.phase reader.frames))) }
+    ensures value { (result ≡ Err ParseFault.Memory)
+        ⊎ (read_of [] result ≡ Answer (at_end reader place
+        (tree_at_end reader.phase reader.frames))) }
     ensures formula { IfOk result IsFormulaRead }
 {
     let has_wide_area = reader.has_wide_area;

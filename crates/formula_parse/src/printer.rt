@@ -2,7 +2,7 @@ ghost use Rattle.std.specs.Prelude.{◌≡◌, [], ◌∷◌, ◌++◌, length, 
 ghost use Rattle.std.specs.List.{flat_map};
 ghost use Rattle.cell_refs.specs.Written.{reference_text};
 ghost use Rattle.formula_parse.specs.declared.operators.Operator.TheVariants as operators;
-ghost use Rattle.formula_parse.specs.Printing.{printed, token_text, tokens_of, separated, interleaved};
+ghost use Rattle.formula_parse.specs.Printing.{canonical_text, token_text, tokens_of, argument_tokens, chain_tokens};
 ghost use Rattle.formula_parse.specs.Reading.{formula_of};
 ghost use Rattle.formula_parse.specs.Tokens.{operator_text};
 
@@ -15,11 +15,11 @@ use itoa::Buffer;
 
 /// Writes the canonical text of a formula at the end of the bytes.
 pub fn print(t: &Tree, out: &mut Vec<u8>) -> Result<(), Memory>
-    ensures ok { OnOk result (out.new.items ≡ out.old.items ++ printed t.now) }
+    ensures ok { OnOk result (out.new.items ≡ out.old.items ++ canonical_text t.now) }
     ensures err { OnErr result (out.new.items ≡ out.old.items) }
 
     // What is written reads back as the same tree.
-    ensures again { formula_of (printed t.now) ≡ Some t.now }
+    ensures again { formula_of (canonical_text t.now) ≡ Some t.now }
 {
     let before = out.len();
     let written = push_formula(t.root(), out);
@@ -30,9 +30,9 @@ pub fn print(t: &Tree, out: &mut Vec<u8>) -> Result<(), Memory>
 }
 
 /// Writes a formula; a refusal may leave a part of it there.
-#[tactic(auto, unfolding(crate::specs::Printing::printed))]
+#[tactic(auto, unfolding(crate::specs::Printing::canonical_text))]
 fn push_formula(root: &Node, out: &mut Vec<u8>) -> Result<(), Memory>
-    ensures ok { OnOk result (out.new.items ≡ out.old.items ++ printed root.now) }
+    ensures ok { OnOk result (out.new.items ≡ out.old.items ++ canonical_text root.now) }
     ensures kept { take (vec_len out.old) out.new.items ≡ out.old.items }
 {
     push_bytes(b"=", out)?;
@@ -42,7 +42,8 @@ fn push_formula(root: &Node, out: &mut Vec<u8>) -> Result<(), Memory>
 /// Writes a part of a formula; a refusal may leave a part of it there.
 #[cycle(push_node)]
 fn push_node(node: &Node, out: &mut Vec<u8>) -> Result<(), Memory>
-    ensures ok { OnOk result (out.new.items ≡ out.old.items ++ flat_map token_text (tokens_of node.now)) }
+    ensures ok { OnOk result (out.new.items ≡ out.old.items
+        ++ flat_map token_text (tokens_of node.now)) }
     ensures kept { take (vec_len out.old) out.new.items ≡ out.old.items }
 {
     match node {
@@ -77,7 +78,8 @@ fn push_node(node: &Node, out: &mut Vec<u8>) -> Result<(), Memory>
 /// Writes arguments with a `,` between each two; a refusal may leave a part of them there.
 #[cycle(push_node)]
 fn push_arguments(nodes: &[Node], out: &mut Vec<u8>) -> Result<(), Memory>
-    ensures ok { OnOk result (out.new.items ≡ out.old.items ++ flat_map token_text (separated (map tokens_of nodes.now))) }
+    ensures ok { OnOk result (out.new.items ≡ out.old.items
+        ++ flat_map token_text (argument_tokens (map tokens_of nodes.now))) }
     ensures kept { take (vec_len out.old) out.new.items ≡ out.old.items }
 {
     let [first, rest @ ..] = nodes else {
@@ -94,7 +96,8 @@ fn push_arguments(nodes: &[Node], out: &mut Vec<u8>) -> Result<(), Memory>
 /// Writes operands with their operators between them; a refusal may leave a part of them there.
 #[cycle(push_node)]
 fn push_chain(nodes: &[Node], operators: &[Operator], out: &mut Vec<u8>) -> Result<(), Memory>
-    ensures ok { OnOk result (out.new.items ≡ out.old.items ++ flat_map token_text (interleaved (map tokens_of nodes.now) operators.now)) }
+    ensures ok { OnOk result (out.new.items ≡ out.old.items
+        ++ flat_map token_text (chain_tokens (map tokens_of nodes.now) operators.now)) }
     ensures kept { take (vec_len out.old) out.new.items ≡ out.old.items }
 {
     for i in 0..nodes.len() {
@@ -120,7 +123,8 @@ fn push_minuses(count: u32, out: &mut Vec<u8>) -> Result<(), Memory>
 
 /// Writes an area by its corners; a refusal may leave a part of it there.
 fn push_corners(first: &RefText, second: &RefText, out: &mut Vec<u8>) -> Result<(), Memory>
-    ensures ok { OnOk result (out.new.items ≡ out.old.items ++ (reference_text first.now ++ 58 ∷ reference_text second.now)) }
+    ensures ok { OnOk result (out.new.items ≡ out.old.items
+        ++ (reference_text first.now ++ 58 ∷ reference_text second.now)) }
     ensures kept { take (vec_len out.old) out.new.items ≡ out.old.items }
 {
     push_reference(first, out)?;

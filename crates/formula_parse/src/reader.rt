@@ -5,7 +5,7 @@ mod operands;
 mod operators;
 
 ghost use Rattle.std.specs.Prelude.{◌≡◌, ◌+◌, ◌<◌, ◌≤◌, ◌^◌, Some, IfOk, false};
-ghost use Rattle.formula_parse.specs.Reading.{stepped, turn_at, first_reader, is_too_deep, ended, awaits_operand, minuses_in, calls_open, is_wide_area, is_large_number};
+ghost use Rattle.formula_parse.specs.Reading.{reader_behind, turn_at, first_reader, is_too_deep, tree_at_end, awaits_operand, minuses_in, calls_open, is_wide_area, is_large_number};
 
 use super::nodes::Node;
 use super::operators::Operator;
@@ -100,11 +100,11 @@ impl Reader {
     }
 
     /// The reader behind a token; None where no formula goes on with it.
-    #[tactic(auto, unfolding(crate::specs::Reading::stepped))]
+    #[tactic(auto, unfolding(crate::specs::Reading::reader_behind))]
     pub(crate) fn with(self, alloc: Global, token: Token) -> Result<Option<Reader>, AllocError>
         requires few { minuses_in self.phase + 1 < 2 ^ 32 }
         requires shallow { is_too_deep self.frames ≡ false }
-        ensures { IfOk result (λ next. next ≡ stepped self token) }
+        ensures { IfOk result (λ next. next ≡ reader_behind self token) }
     {
         let has_wide_area = self.has_wide_area || is_wide_area(&token);
         let has_large_number = self.has_large_number || is_large_number(&token);
@@ -128,7 +128,7 @@ impl Reader {
 
     /// The formula's tree, where it may end here.
     pub(crate) fn ended(self) -> Result<Option<Node>, AllocError>
-        ensures { IfOk result (λ tree. tree ≡ ended self.phase self.frames) }
+        ensures { IfOk result (λ tree. tree ≡ tree_at_end self.phase self.frames) }
     {
         operators::ended(self.phase, self.frames)
     }

@@ -5,8 +5,8 @@ use Rattle.std.specs.List.{list_all, list_any}
 use Rattle.cell_values.specs.declared.errors.ErrorKind.{ErrorKind}
 use Rattle.cell_values.specs.declared.errors.ErrorKind.TheVariants as errors
 use Rattle.cell_values.specs.declared.values.Value.TheVariants as values
-use Rattle.functions.specs.Inputs.{folded}
-use Rattle.functions.specs.Logic.{judged}
+use Rattle.functions.specs.Inputs.{fold_of_values}
+use Rattle.functions.specs.Logic.{verdict_of}
 use Rattle.functions.specs.Truths.{with_truth, NONE_SEEN}
 use Rattle.functions.specs.declared.truths.Truths.{Truths}
 
@@ -34,8 +34,8 @@ some_of s [] e = e
 some_of s (b ∷ bs) e = some_of (with_truth s b) bs refl
 
 -- where a boolean was seen, AND is whether all that were seen are true
-pub judged_all : (r : Result (List Bool) ErrorKind) (seen : Truths) → folded with_truth NONE_SEEN r ≡ Ok seen → seen.some ≡ true
-    → values.Bool seen.all ≡ judged (λ bs. list_all (λ b. b) bs) r
+pub judged_all : (r : Result (List Bool) ErrorKind) (seen : Truths) → fold_of_values with_truth NONE_SEEN r ≡ Ok seen → seen.some ≡ true
+    → values.Bool seen.all ≡ verdict_of (λ bs. list_all (λ b. b) bs) r
 judged_all (Err e) seen h some = absurd (cc)
 judged_all (Ok []) seen h some = let same : NONE_SEEN ≡ seen = cc in absurd (apart (ap (λ (t : Truths). t.some) same ∙ some))
 judged_all (Ok (b ∷ bs)) seen h some =
@@ -43,8 +43,8 @@ judged_all (Ok (b ∷ bs)) seen h some =
     ap values.Bool (ap (λ (t : Truths). t.all) (sym same) ∙ all_of NONE_SEEN (b ∷ bs))
 
 -- where a boolean was seen, OR is whether any that was seen is true
-pub judged_any : (r : Result (List Bool) ErrorKind) (seen : Truths) → folded with_truth NONE_SEEN r ≡ Ok seen → seen.some ≡ true
-    → values.Bool seen.any ≡ judged (λ bs. list_any (λ b. b) bs) r
+pub judged_any : (r : Result (List Bool) ErrorKind) (seen : Truths) → fold_of_values with_truth NONE_SEEN r ≡ Ok seen → seen.some ≡ true
+    → values.Bool seen.any ≡ verdict_of (λ bs. list_any (λ b. b) bs) r
 judged_any (Err e) seen h some = absurd (cc)
 judged_any (Ok []) seen h some = let same : NONE_SEEN ≡ seen = cc in absurd (apart (ap (λ (t : Truths). t.some) same ∙ some))
 judged_any (Ok (b ∷ bs)) seen h some =
@@ -52,8 +52,8 @@ judged_any (Ok (b ∷ bs)) seen h some =
     ap values.Bool (ap (λ (t : Truths). t.any) (sym same) ∙ any_of NONE_SEEN (b ∷ bs))
 
 -- where no boolean was seen, there is nothing to judge
-pub judged_none : (f : List Bool → Bool) (r : Result (List Bool) ErrorKind) (seen : Truths) → folded with_truth NONE_SEEN r ≡ Ok seen → seen.some ≡ false
-    → values.Error errors.Value ≡ judged f r
+pub judged_none : (f : List Bool → Bool) (r : Result (List Bool) ErrorKind) (seen : Truths) → fold_of_values with_truth NONE_SEEN r ≡ Ok seen → seen.some ≡ false
+    → values.Error errors.Value ≡ verdict_of f r
 judged_none f (Err e) seen h none = absurd (cc)
 judged_none f (Ok []) seen h none = refl
 judged_none f (Ok (b ∷ bs)) seen h none =
@@ -61,6 +61,6 @@ judged_none f (Ok (b ∷ bs)) seen h none =
     absurd (apart (sym none ∙ ap (λ (t : Truths). t.some) (sym same) ∙ some_of (with_truth NONE_SEEN b) bs refl))
 
 -- an error that was met is the answer
-pub judged_error : (f : List Bool → Bool) (r : Result (List Bool) ErrorKind) (e : ErrorKind) → folded with_truth NONE_SEEN r ≡ Err e → values.Error e ≡ judged f r
+pub judged_error : (f : List Bool → Bool) (r : Result (List Bool) ErrorKind) (e : ErrorKind) → fold_of_values with_truth NONE_SEEN r ≡ Err e → values.Error e ≡ verdict_of f r
 judged_error f (Err k) e h = cc
 judged_error f (Ok bs) e h = absurd (cc)

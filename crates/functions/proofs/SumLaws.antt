@@ -8,7 +8,7 @@ use Rattle.cell_values.specs.declared.values.Value.TheVariants as values
 use Rattle.cell_values.specs.Value.{within_magnitude, add_of}
 use Rattle.functions.specs.declared.arguments.Arg.{Arg}
 use Rattle.functions.specs.Inputs.{all_ok, with_first}
-use Rattle.functions.specs.Gathering.{of_numbers, total, gathered, numbers_of, numbers_in, sum_of}
+use Rattle.functions.specs.Gathering.{of_numbers, total, numbers_or_error, numbers_of, numbers_in, sum_of}
 use Rattle.functions.proofs.NumberLaws.{num_is}
 
 shared_first : {A : Type 0} (x : A) (r : Result (List A) ErrorKind) (zs : List A) → with_first x r ≡ Ok zs → (ys : List A) × (r ≡ Ok ys) × (zs ≡ x ∷ ys)
@@ -40,9 +40,9 @@ numbers_of_sum (Ok ns) a h = (ns, refl, num_is (total ns) a h)
 -- the sum of arguments in two parts is the sum of the parts' sums, where these are within the magnitude
 pub sum_of-append : (xs ys : List Arg) (a b : ℤ) → sum_of xs ≡ values.Num a → sum_of ys ≡ values.Num b → sum_of (xs ++ ys) ≡ add_of (sum_of xs) (sum_of ys)
 sum_of-append xs ys a b e f =
-    let first = numbers_of_sum (gathered xs) a e in
-    let second = numbers_of_sum (gathered ys) b f in
-    let all : gathered (xs ++ ys) ≡ Ok (first.0 ++ second.0) =
+    let first = numbers_of_sum (numbers_or_error xs) a e in
+    let second = numbers_of_sum (numbers_or_error ys) b f in
+    let all : numbers_or_error (xs ++ ys) ≡ Ok (first.0 ++ second.0) =
     ap all_ok (flat_map-append numbers_of xs ys) ∙ all_ok-append (numbers_in xs) (numbers_in ys) first.0 second.0 first.1 second.1 in
     ap (λ r. of_numbers (λ ns. within_magnitude (total ns)) r) all
     ∙ ap within_magnitude (total-append first.0 second.0 ∙ ap (λ k. k +ℤ total second.0) first.2 ∙ ap (λ k. a +ℤ k) second.2)

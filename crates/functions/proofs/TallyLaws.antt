@@ -16,18 +16,18 @@ use Rattle.functions.specs.declared.tallies.Least.{Least}
 use Rattle.functions.specs.declared.tallies.Greatest.{Greatest}
 use Rattle.functions.specs.declared.tallies.Product.{Product}
 use Rattle.functions.specs.declared.tallies.Product.TheVariants.{Empty, Within, Beyond}
-use Rattle.functions.specs.Inputs.{folded}
+use Rattle.functions.specs.Inputs.{fold_of_values}
 use Rattle.functions.specs.Numbers.{is_within}
 use Rattle.functions.proofs.NumberLaws.{outside, far_from, choice}
 use Rattle.functions.specs.Gathering.{of_numbers, total, least, greatest, product}
-use Rattle.functions.specs.Tallies.{sum_step, least_step, greatest_step, product_step, product_known, product_shown}
+use Rattle.functions.specs.Tallies.{sum_step, least_step, greatest_step, product_step, product_so_far, product_value}
 
 sum_is : (m : ℤ) (ns : List ℤ) → (fold sum_step (record { 0 = m }) ns).0 ≡ fold ◌+ℤ◌ m ns
 sum_is m [] = refl
 sum_is m (n ∷ ns) = sum_is (m +ℤ n) ns
 
 -- a tally of sums is the total
-pub summed : (r : Result (List ℤ) ErrorKind) (s : Sum) → folded sum_step (record { 0 = pos 0 }) r ≡ Ok s
+pub summed : (r : Result (List ℤ) ErrorKind) (s : Sum) → fold_of_values sum_step (record { 0 = pos 0 }) r ≡ Ok s
     → within_magnitude s.0 ≡ of_numbers (λ ns. within_magnitude (total ns)) r
 summed (Err e) s h = absurd (cc)
 summed (Ok ns) s h =
@@ -39,7 +39,7 @@ least_is m [] = refl
 least_is m (n ∷ ns) = least_is (int_min m n) ns
 
 -- a tally of the least is the least
-pub least_kept : (r : Result (List ℤ) ErrorKind) (s : Least) → folded least_step (record { 0 = None }) r ≡ Ok s
+pub least_kept : (r : Result (List ℤ) ErrorKind) (s : Least) → fold_of_values least_step (record { 0 = None }) r ≡ Ok s
     → values.Num (unwrap_or s.0 (pos 0)) ≡ of_numbers (λ ns. values.Num (least ns)) r
 least_kept (Err e) s h = absurd (cc)
 least_kept (Ok []) s h =
@@ -54,7 +54,7 @@ greatest_is m [] = refl
 greatest_is m (n ∷ ns) = greatest_is (int_max m n) ns
 
 -- a tally of the greatest is the greatest
-pub greatest_kept : (r : Result (List ℤ) ErrorKind) (s : Greatest) → folded greatest_step (record { 0 = None }) r ≡ Ok s
+pub greatest_kept : (r : Result (List ℤ) ErrorKind) (s : Greatest) → fold_of_values greatest_step (record { 0 = None }) r ≡ Ok s
     → values.Num (unwrap_or s.0 (pos 0)) ≡ of_numbers (λ ns. values.Num (greatest ns)) r
 greatest_kept (Err e) s h = absurd (cc)
 greatest_kept (Ok []) s h =
@@ -73,35 +73,35 @@ times_beyond : (p n : ℤ) → 999999999999999 < unsigned_abs p → 0 < unsigned
 times_beyond p n far some = omega (arith, unsigned_abs-mul p n, le-mul_of_pos_right (unsigned_abs p) some)
 
 -- what is kept of a product that is outside the magnitude stays outside, but for a factor 0
-beyond_times : (p n : ℤ) → 999999999999999 < unsigned_abs p → product_step Beyond n ≡ product_known (p *ℤ n)
+beyond_times : (p n : ℤ) → 999999999999999 < unsigned_abs p → product_step Beyond n ≡ product_so_far (p *ℤ n)
 beyond_times p n far = elim (choice (int_eq n (pos 0))) [
   | inl e ↦ (let none : n ≡ pos 0 = tells_apart exact_signed n (pos 0) e in
-      ap (λ b. cond b (Within (pos 0)) Beyond) e ∙ ap product_known (sym (ap (λ k. p *ℤ k) none ∙ *ℤ-zero p)))
+      ap (λ b. cond b (Within (pos 0)) Beyond) e ∙ ap product_so_far (sym (ap (λ k. p *ℤ k) none ∙ *ℤ-zero p)))
   | inr e ↦ ap (λ b. cond b (Within (pos 0)) Beyond) e
       ∙ sym (ap (λ b. cond b (Within (p *ℤ n)) Beyond) (outside (p *ℤ n) (times_beyond p n far (not_zero n e))))
 ]
 
-known_times : (p n : ℤ) → product_step (product_known p) n ≡ product_known (p *ℤ n)
+known_times : (p n : ℤ) → product_step (product_so_far p) n ≡ product_so_far (p *ℤ n)
 known_times p n = elim (choice (is_within p)) [
   | inl e ↦ ap (λ b. product_step (cond b (Within p) Beyond) n) e
   | inr e ↦ ap (λ b. product_step (cond b (Within p) Beyond) n) e ∙ beyond_times p n (far_from p e)
 ]
 
-product_is : (p : ℤ) (ns : List ℤ) → fold product_step (product_known p) ns ≡ product_known (fold ◌*ℤ◌ p ns)
+product_is : (p : ℤ) (ns : List ℤ) → fold product_step (product_so_far p) ns ≡ product_so_far (fold ◌*ℤ◌ p ns)
 product_is p [] = refl
 product_is p (n ∷ ns) = ap (λ s. fold product_step s ns) (known_times p n) ∙ product_is (p *ℤ n) ns
 
-shown_known : (p : ℤ) → product_shown (product_known p) ≡ within_magnitude p
+shown_known : (p : ℤ) → product_value (product_so_far p) ≡ within_magnitude p
 shown_known p = elim (choice (is_within p)) [
-  | inl e ↦ ap (λ b. product_shown (cond b (Within p) Beyond)) e ∙ sym (ap (λ b. cond b (values.Num p) (values.Error errors.Num)) e)
-  | inr e ↦ ap (λ b. product_shown (cond b (Within p) Beyond)) e ∙ sym (ap (λ b. cond b (values.Num p) (values.Error errors.Num)) e)
+  | inl e ↦ ap (λ b. product_value (cond b (Within p) Beyond)) e ∙ sym (ap (λ b. cond b (values.Num p) (values.Error errors.Num)) e)
+  | inr e ↦ ap (λ b. product_value (cond b (Within p) Beyond)) e ∙ sym (ap (λ b. cond b (values.Num p) (values.Error errors.Num)) e)
 ]
 
 -- a tally of products is the product
-pub multiplied : (r : Result (List ℤ) ErrorKind) (s : Product) → folded product_step Empty r ≡ Ok s
-    → product_shown s ≡ of_numbers (λ ns. within_magnitude (product ns)) r
+pub multiplied : (r : Result (List ℤ) ErrorKind) (s : Product) → fold_of_values product_step Empty r ≡ Ok s
+    → product_value s ≡ of_numbers (λ ns. within_magnitude (product ns)) r
 multiplied (Err e) s h = absurd (cc)
-multiplied (Ok []) s h = let same : Empty ≡ s = cc in ap product_shown (sym same)
+multiplied (Ok []) s h = let same : Empty ≡ s = cc in ap product_value (sym same)
 multiplied (Ok (n ∷ ns)) s h =
-    let same : fold product_step (product_known n) ns ≡ s = cc in
-    ap product_shown (sym same ∙ product_is n ns) ∙ shown_known (fold ◌*ℤ◌ n ns)
+    let same : fold product_step (product_so_far n) ns ≡ s = cc in
+    ap product_value (sym same ∙ product_is n ns) ∙ shown_known (fold ◌*ℤ◌ n ns)

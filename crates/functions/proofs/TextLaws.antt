@@ -9,13 +9,13 @@ use Rattle.std.specs.List.{find, range_with_len}
 use Rattle.std.specs.Option.{option_map_or}
 use Rattle.std.specs.Str.{IsUtf8, chars}
 use lib.Utf8.{encode, encodes, scalar, scalars}
-use Rattle.cell_values.specs.Coercion.{joined, joined_texts}
+use Rattle.cell_values.specs.Coercion.{join_of, text_join_of}
 use Rattle.cell_values.specs.Digits.{after_spaces}
 use Rattle.cell_values.specs.Text.{is_text, if_short}
 use Rattle.cell_values.specs.declared.errors.ErrorKind.TheVariants as errors
 use Rattle.cell_values.specs.declared.values.Value.TheVariants as values
 use Rattle.functions.specs.TextLaws.{StandsAt, IsLeastPlace}
-use Rattle.functions.specs.Texts.{first_characters, without_first, mid_part, tidied, before_spaces, stands_behind, found_behind, find_place}
+use Rattle.functions.specs.Texts.{first_characters, without_first, mid_part, single_spacing_of, before_spaces, stands_behind, found_behind, find_place}
 use Rattle.functions.proofs.CharacterFacts.{cut}
 use Rattle.functions.proofs.FindFacts.{true_or_false}
 use Rattle.functions.proofs.PlainFacts.{parts_of_text, plain_drop}
@@ -35,11 +35,11 @@ rest_is t n k e far =
     let same : chars (without_first n t) ≡ drop n (chars t) = chars-encodes (drop n (chars t)) (plain_drop n (chars t) p.plain).scalar in
     ap encodes (ap (take k) same ∙ take_all k (drop n (chars t)) (omega (arith, length-drop n (chars t))))
 
-pub join_law : (t : List ℕ) (n k : ℕ) → is_text t ≡ true → length (chars t) ≤ n + k → joined (values.Text (first_characters n t)) (mid_part t (pos (n + 1)) (pos k)) ≡ values.Text t
+pub join_law : (t : List ℕ) (n k : ℕ) → is_text t ≡ true → length (chars t) ≤ n + k → join_of (values.Text (first_characters n t)) (mid_part t (pos (n + 1)) (pos k)) ≡ values.Text t
 join_law t n k e far =
     let p = parts_of_text t e in
-    ap (λ m. joined (values.Text (first_characters n t)) (mid_part t (pos m) (pos k))) (add-one n) ∙
-    (ap (joined_texts (first_characters n t)) (rest_is t n k e far) ∙
+    ap (λ m. join_of (values.Text (first_characters n t)) (mid_part t (pos m) (pos k))) (add-one n) ∙
+    (ap (text_join_of (first_characters n t)) (rest_is t n k e far) ∙
     (ap (λ s. option_map_or values.Text (if_short s) (values.Error errors.Value)) (sym (cut n t p.utf8)) ∙
     ap (λ o. option_map_or values.Text o (values.Error errors.Value)) (if_short_is t p.few)))
 
@@ -67,21 +67,21 @@ inner_again [] = refl
 inner_again (c ∷ []) = inner_last c (cases_eq c 32)
 inner_again (c ∷ d ∷ cs) = inner_more c d cs (cases_eq c 32) (cases_eq d 32) (inner_again (d ∷ cs)) (inner_again cs)
 
-front_stays : (c : ℕ) (cs : List ℕ) → (c ≡ 32) ⊎ (c ≡ 32 → ⊥) → after_spaces (tidied cs) ≡ tidied cs → after_spaces (tidied (c ∷ cs)) ≡ tidied (c ∷ cs)
-front_stays c cs (inl is) rest = subst (λ (k : ℕ). after_spaces (tidied (k ∷ cs)) ≡ tidied (k ∷ cs)) (sym is) rest
+front_stays : (c : ℕ) (cs : List ℕ) → (c ≡ 32) ⊎ (c ≡ 32 → ⊥) → after_spaces (single_spacing_of cs) ≡ single_spacing_of cs → after_spaces (single_spacing_of (c ∷ cs)) ≡ single_spacing_of (c ∷ cs)
+front_stays c cs (inl is) rest = subst (λ (k : ℕ). after_spaces (single_spacing_of (k ∷ cs)) ≡ single_spacing_of (k ∷ cs)) (sym is) rest
 front_stays c cs (inr other) rest =
-    let start : tidied (c ∷ cs) ≡ c ∷ inner cs = start_other c cs other in
+    let start : single_spacing_of (c ∷ cs) ≡ c ∷ inner cs = start_other c cs other in
     ap after_spaces start ∙ (after_other_space c (inner cs) other ∙ sym start)
 
-after_again : (cs : List ℕ) → after_spaces (tidied cs) ≡ tidied cs
+after_again : (cs : List ℕ) → after_spaces (single_spacing_of cs) ≡ single_spacing_of cs
 after_again [] = refl
 after_again (c ∷ cs) = front_stays c cs (cases_eq c 32) (after_again cs)
 
-tidied_again : (cs : List ℕ) → tidied (tidied cs) ≡ tidied cs
+tidied_again : (cs : List ℕ) → single_spacing_of (single_spacing_of cs) ≡ single_spacing_of cs
 tidied_again cs = ap inner (after_again cs) ∙ inner_again (after_spaces cs)
 
-pub trim_law : (t : List ℕ) → is_text t ≡ true → values.Text (encodes (tidied (chars (encodes (tidied (chars t)))))) ≡ values.Text (encodes (tidied (chars t)))
-trim_law t e = ap (λ cs. values.Text (encodes cs)) (ap tidied (chars-encodes (tidied (chars t)) (tidied_plain t e).scalar) ∙ tidied_again (chars t))
+pub trim_law : (t : List ℕ) → is_text t ≡ true → values.Text (encodes (single_spacing_of (chars (encodes (single_spacing_of (chars t)))))) ≡ values.Text (encodes (single_spacing_of (chars t)))
+trim_law t e = ap (λ cs. values.Text (encodes cs)) (ap single_spacing_of (chars-encodes (single_spacing_of (chars t)) (tidied_plain t e).scalar) ∙ tidied_again (chars t))
 
 -- places
 

@@ -8,7 +8,7 @@ use lib.Utf8.{encode, encodes}
 use Rattle.cell_values.specs.Digits.{after_spaces}
 use Rattle.cell_values.specs.Text.{is_text}
 use Rattle.functions.proofs.PlainFacts.{Plain, parts_of_text, text_of_plain, plain_nil, plain_head, plain_cons}
-use Rattle.functions.specs.Texts.{none_left, before_spaces, single_spaced, tidied, spaced}
+use Rattle.functions.specs.Texts.{none_left, before_spaces, single_spaced, single_spacing_of, character_behind_space}
 
 -- what stays of the characters after one that is no space
 abbrev pub inner : List ℕ → List ℕ
@@ -16,7 +16,7 @@ inner cs = single_spaced (before_spaces cs)
 
 -- what is still to come behind the bytes that are written, where a space is wanted or not
 abbrev pub to_come : List ℕ → Bool → List ℕ → List ℕ
-to_come [] wanted cs = tidied cs
+to_come [] wanted cs = single_spacing_of cs
 to_come (b ∷ bs) true cs = inner (32 ∷ cs)
 to_come (b ∷ bs) false cs = inner cs
 
@@ -53,7 +53,7 @@ pub two_spaces : (ys : List ℕ) → single_spaced (behind_space (behind_space y
 two_spaces [] = refl
 two_spaces (y ∷ ys) = refl
 
-pub start_other : (c : ℕ) (cs : List ℕ) → c ≢ 32 → tidied (c ∷ cs) ≡ c ∷ inner cs
+pub start_other : (c : ℕ) (cs : List ℕ) → c ≢ 32 → single_spacing_of (c ∷ cs) ≡ c ∷ inner cs
 start_other c cs ne = ap inner (ap (λ b. cond b (after_spaces cs) (c ∷ cs)) (not_space c ne)) ∙ inner_other c cs ne
 
 pub after_other_space : (c : ℕ) (cs : List ℕ) → c ≢ 32 → after_spaces (c ∷ cs) ≡ c ∷ cs
@@ -76,7 +76,7 @@ to_come_some [] cs h = absurd (omega arith)
 to_come_some (b ∷ bs) cs h = refl
 
 after_other : (bytes : List ℕ) (wanted : Bool) (c : ℕ) (cs : List ℕ) → c ≢ 32 → (wanted ≡ true → 0 < length bytes) →
-    encodes (to_come bytes wanted (c ∷ cs)) ≡ spaced wanted c ++ encodes (inner cs)
+    encodes (to_come bytes wanted (c ∷ cs)) ≡ character_behind_space wanted c ++ encodes (inner cs)
 after_other [] true c cs ne some = absurd (omega (arith, some refl))
 after_other [] false c cs ne some = ap encodes (start_other c cs ne)
 after_other (b ∷ bs) true c cs ne some = ap encodes (inner_space_other c cs ne) ∙ ap (λ t. t ++ (encode c ++ encodes (inner cs))) (encode_ascii 32 (omega arith))
@@ -90,19 +90,19 @@ space_step bytes wanted now rest tail whole utf8 e is h =
     ap (to_come bytes wanted) (chars_past_char rest tail 32 utf8 e) ∙ (after_space bytes wanted (chars tail) ∙ ap (λ w. to_come bytes w (chars tail)) (sym is)) in
     sym (ap (λ t. bytes ++ encodes t) step) ∙ h
 
-spaced_some : (wanted : Bool) (c : ℕ) → 0 < length (spaced wanted c)
+spaced_some : (wanted : Bool) (c : ℕ) → 0 < length (character_behind_space wanted c)
 spaced_some true c = omega arith
 spaced_some false c = let some = (len_utf8_bounds c).0 in omega (arith, length-encode c)
 
 -- a step over another character
-pub other_step : (bytes new : List ℕ) (wanted : Bool) (rest tail whole : List ℕ) (c : ℕ) → c ≢ 32 → IsUtf8 rest → rest ≡ encode c ++ tail → (wanted ≡ true → 0 < length bytes) → new ≡ bytes ++ spaced wanted c →
+pub other_step : (bytes new : List ℕ) (wanted : Bool) (rest tail whole : List ℕ) (c : ℕ) → c ≢ 32 → IsUtf8 rest → rest ≡ encode c ++ tail → (wanted ≡ true → 0 < length bytes) → new ≡ bytes ++ character_behind_space wanted c →
     bytes ++ encodes (to_come bytes wanted (chars rest)) ≡ whole → new ++ encodes (to_come new false (chars tail)) ≡ whole
 other_step bytes new wanted rest tail whole c ne utf8 e some grown h =
-    let longer : 0 < length new = let more = spaced_some wanted c in omega (arith, ap length grown, length-append bytes (spaced wanted c)) in
-    let step : encodes (to_come bytes wanted (chars rest)) ≡ spaced wanted c ++ encodes (inner (chars tail)) =
+    let longer : 0 < length new = let more = spaced_some wanted c in omega (arith, ap length grown, length-append bytes (character_behind_space wanted c)) in
+    let step : encodes (to_come bytes wanted (chars rest)) ≡ character_behind_space wanted c ++ encodes (inner (chars tail)) =
     ap (λ cs. encodes (to_come bytes wanted cs)) (chars_past_char rest tail c utf8 e) ∙ after_other bytes wanted c (chars tail) ne some in
     ap (λ cs. new ++ encodes cs) (to_come_some new (chars tail) longer) ∙
-    (ap (λ t. t ++ encodes (inner (chars tail))) grown ∙ (append_assoc bytes (spaced wanted c) (encodes (inner (chars tail))) ∙ (sym (ap (λ t. bytes ++ t) step) ∙ h)))
+    (ap (λ t. t ++ encodes (inner (chars tail))) grown ∙ (append_assoc bytes (character_behind_space wanted c) (encodes (inner (chars tail))) ∙ (sym (ap (λ t. bytes ++ t) step) ∙ h)))
 
 nothing_to_come : (bytes : List ℕ) (wanted : Bool) → to_come bytes wanted [] ≡ []
 nothing_to_come [] wanted = refl
@@ -157,17 +157,17 @@ tame_single n (c ∷ d ∷ cs) t =
     let rest = tame_single (n - 1) (d ∷ cs) (tame_tail n c (d ∷ cs) t) in
     tame_choice n (eqb c 32 && eqb d 32) (single_spaced (d ∷ cs)) (c ∷ single_spaced (d ∷ cs)) (tame_more n (single_spaced (d ∷ cs)) rest) (tame_cons n c (d ∷ cs) (single_spaced (d ∷ cs)) t rest)
 
-pub tidied_plain : (t : List ℕ) → is_text t ≡ true → Plain (tidied (chars t))
+pub tidied_plain : (t : List ℕ) → is_text t ≡ true → Plain (single_spacing_of (chars t))
 tidied_plain t e =
     let p = parts_of_text t e in
     (tame_single 32767 (before_spaces (after_spaces (chars t))) (tame_before 32767 (after_spaces (chars t)) (tame_after 32767 (chars t) (record { plain = p.plain; few = p.few })))).plain
 
 -- a tidied text is a text
-pub tidied_is_text : (t : List ℕ) → is_text t ≡ true → is_text (encodes (tidied (chars t))) ≡ true
+pub tidied_is_text : (t : List ℕ) → is_text t ≡ true → is_text (encodes (single_spacing_of (chars t))) ≡ true
 tidied_is_text t e =
     let p = parts_of_text t e in
     let tame = tame_single 32767 (before_spaces (after_spaces (chars t))) (tame_before 32767 (after_spaces (chars t)) (tame_after 32767 (chars t) (record { plain = p.plain; few = p.few }))) in
-    text_of_plain (tidied (chars t)) tame.plain tame.few
+    text_of_plain (single_spacing_of (chars t)) tame.plain tame.few
 
 wanted_some : (bytes : List ℕ) → space_wanted bytes ≡ true → 0 < length bytes
 wanted_some [] e = absurd (cc)

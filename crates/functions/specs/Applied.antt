@@ -16,48 +16,48 @@ use Rattle.functions.specs.Logic.{and_of, or_of, not_of}
 use Rattle.functions.specs.Texts.{len_of, left_of, right_of, mid_of, upper_of, lower_of, concatenate_of, exact_of, find_of, rept_of, trim_of, value_function_of}
 
 -- what a function answers; IF, IFERROR, IFNA and CHOOSE choose among arguments that aren't evaluated yet, and have no answer of their own here
-abbrev pub applied : Function → List Arg → Value
-applied functions.True args = values.Bool true
-applied functions.False args = values.Bool false
-applied functions.If args = values.Error errors.Value
-applied functions.IfError args = values.Error errors.Value
-applied functions.IfNa args = values.Error errors.Value
-applied functions.And args = and_of args
-applied functions.Or args = or_of args
-applied functions.Not args = not_of (argument args 0)
-applied functions.IsNumber args = values.Bool (is_number (argument args 0))
-applied functions.IsText args = values.Bool (is_text_value (argument args 0))
-applied functions.IsLogical args = values.Bool (is_logical (argument args 0))
-applied functions.IsError args = values.Bool (is_error (argument args 0))
-applied functions.IsNa args = values.Bool (is_na (argument args 0))
-applied functions.IsBlank args = values.Bool (is_blank (argument args 0))
-applied functions.Na args = values.Error errors.Na
-applied functions.Sum args = sum_of args
-applied functions.Product args = product_of args
-applied functions.Min args = min_of args
-applied functions.Max args = max_of args
-applied functions.Count args = count_of args
-applied functions.CountA args = counta_of args
-applied functions.Abs args = abs_of (argument args 0)
-applied functions.Sign args = sign_of (argument args 0)
-applied functions.Mod args = mod_of (argument args 0) (argument args 1)
-applied functions.Quotient args = quotient_of (argument args 0) (argument args 1)
-applied functions.Power args = power_of (argument args 0) (argument args 1)
-applied functions.Choose args = values.Error errors.Value
-applied functions.Index args = index_of args
-applied functions.Len args = len_of args
-applied functions.Left args = left_of args
-applied functions.Right args = right_of args
-applied functions.Mid args = mid_of args
-applied functions.Upper args = upper_of args
-applied functions.Lower args = lower_of args
-applied functions.Concatenate args = concatenate_of args
-applied functions.Exact args = exact_of args
-applied functions.Find args = find_of args
-applied functions.Rept args = rept_of args
-applied functions.Trim args = trim_of args
-applied functions.Value args = value_function_of args
+abbrev pub result_of : Function → List Arg → Value
+result_of functions.True args = values.Bool true
+result_of functions.False args = values.Bool false
+result_of functions.If args = values.Error errors.Value
+result_of functions.IfError args = values.Error errors.Value
+result_of functions.IfNa args = values.Error errors.Value
+result_of functions.And args = and_of args
+result_of functions.Or args = or_of args
+result_of functions.Not args = not_of (argument args 0)
+result_of functions.IsNumber args = values.Bool (is_number (argument args 0))
+result_of functions.IsText args = values.Bool (is_text_value (argument args 0))
+result_of functions.IsLogical args = values.Bool (is_logical (argument args 0))
+result_of functions.IsError args = values.Bool (is_error (argument args 0))
+result_of functions.IsNa args = values.Bool (is_na (argument args 0))
+result_of functions.IsBlank args = values.Bool (is_blank (argument args 0))
+result_of functions.Na args = values.Error errors.Na
+result_of functions.Sum args = sum_of args
+result_of functions.Product args = product_of args
+result_of functions.Min args = min_of args
+result_of functions.Max args = max_of args
+result_of functions.Count args = count_of args
+result_of functions.CountA args = counta_of args
+result_of functions.Abs args = abs_of (argument args 0)
+result_of functions.Sign args = sign_of (argument args 0)
+result_of functions.Mod args = mod_of (argument args 0) (argument args 1)
+result_of functions.Quotient args = quotient_of (argument args 0) (argument args 1)
+result_of functions.Power args = power_of (argument args 0) (argument args 1)
+result_of functions.Choose args = values.Error errors.Value
+result_of functions.Index args = index_of args
+result_of functions.Len args = len_of args
+result_of functions.Left args = left_of args
+result_of functions.Right args = right_of args
+result_of functions.Mid args = mid_of args
+result_of functions.Upper args = upper_of args
+result_of functions.Lower args = lower_of args
+result_of functions.Concatenate args = concatenate_of args
+result_of functions.Exact args = exact_of args
+result_of functions.Find args = find_of args
+result_of functions.Rept args = rept_of args
+result_of functions.Trim args = trim_of args
+result_of functions.Value args = value_function_of args
 
 -- what the function of a name answers; no function's name is `#NAME?`
-abbrev pub applied_by_name : Option Function → List Arg → Value
-applied_by_name function args = option_map_or (λ f. applied f args) function (values.Error errors.Name)
+abbrev pub result_by_name : Option Function → List Arg → Value
+result_by_name function args = option_map_or (λ f. result_of f args) function (values.Error errors.Name)

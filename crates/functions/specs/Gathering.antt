@@ -27,8 +27,8 @@ abbrev pub numbers_in : List Arg → List (Result ℤ ErrorKind)
 numbers_in args = flat_map numbers_of args
 
 -- the gathered numbers, or the first error among them
-abbrev pub gathered : List Arg → Result (List ℤ) ErrorKind
-gathered args = all_ok (numbers_in args)
+abbrev pub numbers_or_error : List Arg → Result (List ℤ) ErrorKind
+numbers_or_error args = all_ok (numbers_in args)
 
 -- what a function makes of the gathered numbers: an error is the answer
 abbrev pub of_numbers : (List ℤ → Value) → Result (List ℤ) ErrorKind → Value
@@ -41,7 +41,7 @@ total ns = fold ◌+ℤ◌ (pos 0) ns
 
 -- SUM: the exact sum, `#NUM!` outside the magnitude
 abbrev pub sum_of : List Arg → Value
-sum_of args = of_numbers (λ ns. within_magnitude (total ns)) (gathered args)
+sum_of args = of_numbers (λ ns. within_magnitude (total ns)) (numbers_or_error args)
 
 -- the exact product of numbers, 0 for none
 abbrev pub product : List ℤ → ℤ
@@ -50,7 +50,7 @@ product (n ∷ ns) = fold ◌*ℤ◌ n ns
 
 -- PRODUCT: the exact product, `#NUM!` outside the magnitude
 abbrev pub product_of : List Arg → Value
-product_of args = of_numbers (λ ns. within_magnitude (product ns)) (gathered args)
+product_of args = of_numbers (λ ns. within_magnitude (product ns)) (numbers_or_error args)
 
 -- the least of numbers, 0 for none
 abbrev pub least : List ℤ → ℤ
@@ -59,7 +59,7 @@ least (n ∷ ns) = fold int_min n ns
 
 -- MIN: the least number
 abbrev pub min_of : List Arg → Value
-min_of args = of_numbers (λ ns. values.Num (least ns)) (gathered args)
+min_of args = of_numbers (λ ns. values.Num (least ns)) (numbers_or_error args)
 
 -- the greatest of numbers, 0 for none
 abbrev pub greatest : List ℤ → ℤ
@@ -68,7 +68,7 @@ greatest (n ∷ ns) = fold int_max n ns
 
 -- MAX: the greatest number
 abbrev pub max_of : List Arg → Value
-max_of args = of_numbers (λ ns. values.Num (greatest ns)) (gathered args)
+max_of args = of_numbers (λ ns. values.Num (greatest ns)) (numbers_or_error args)
 
 -- how many numbers an argument has: a direct one 1 where it counts as a number, an area its numbers
 abbrev pub numbers_counted : Arg → ℕ

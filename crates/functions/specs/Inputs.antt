@@ -33,9 +33,9 @@ all_ok (Ok x ∷ rs) = with_first x (all_ok rs)
 all_ok (Err e ∷ rs) = Err e
 
 -- a fold over the values of a result; an error stays
-abbrev pub folded : {S A : Type 0} → (S → A → S) → S → Result (List A) ErrorKind → Result S ErrorKind
-folded f s (Ok xs) = Ok (fold f s xs)
-folded f s (Err e) = Err e
+abbrev pub fold_of_values : {S A : Type 0} → (S → A → S) → S → Result (List A) ErrorKind → Result S ErrorKind
+fold_of_values f s (Ok xs) = Ok (fold f s xs)
+fold_of_values f s (Err e) = Err e
 
 -- the most arguments of a call
 abbrev pub MOST_ARGUMENTS : ℕ

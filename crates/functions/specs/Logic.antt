@@ -27,18 +27,18 @@ abbrev pub truths : List Arg → Result (List Bool) ErrorKind
 truths args = all_ok (flat_map truths_of args)
 
 -- what a function makes of booleans: an error is the answer, and where there is none at all `#VALUE!`
-abbrev pub judged : (List Bool → Bool) → Result (List Bool) ErrorKind → Value
-judged f (Err e) = values.Error e
-judged f (Ok []) = values.Error errors.Value
-judged f (Ok (b ∷ bs)) = values.Bool (f (b ∷ bs))
+abbrev pub verdict_of : (List Bool → Bool) → Result (List Bool) ErrorKind → Value
+verdict_of f (Err e) = values.Error e
+verdict_of f (Ok []) = values.Error errors.Value
+verdict_of f (Ok (b ∷ bs)) = values.Bool (f (b ∷ bs))
 
 -- AND: whether all are true
 abbrev pub and_of : List Arg → Value
-and_of args = judged (λ bs. list_all (λ b. b) bs) (truths args)
+and_of args = verdict_of (λ bs. list_all (λ b. b) bs) (truths args)
 
 -- OR: whether any is true
 abbrev pub or_of : List Arg → Value
-or_of args = judged (λ bs. list_any (λ b. b) bs) (truths args)
+or_of args = verdict_of (λ bs. list_any (λ b. b) bs) (truths args)
 
 -- the opposite of a boolean: an error is the answer
 abbrev pub opposite : Result Bool ErrorKind → Value

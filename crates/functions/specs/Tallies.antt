@@ -17,20 +17,20 @@ abbrev pub sum_step : Sum → ℤ → Sum
 sum_step s n = record { 0 = s.0 +ℤ n }
 
 -- what is kept of a product
-abbrev pub product_known : ℤ → Product
-product_known n = if is_within n then Within n else Beyond
+abbrev pub product_so_far : ℤ → Product
+product_so_far n = if is_within n then Within n else Beyond
 
 -- a product with one factor more; outside the magnitude it stays there unless the factor is 0
 abbrev pub product_step : Product → ℤ → Product
-product_step Empty n = product_known n
-product_step (Within p) n = product_known (p *ℤ n)
+product_step Empty n = product_so_far n
+product_step (Within p) n = product_so_far (p *ℤ n)
 product_step Beyond n = if int_eq n (pos 0) then Within (pos 0) else Beyond
 
 -- a product as a value: 0 of no number, `#NUM!` outside the magnitude
-abbrev pub product_shown : Product → Value
-product_shown Empty = values.Num (pos 0)
-product_shown (Within p) = values.Num p
-product_shown Beyond = values.Error errors.Num
+abbrev pub product_value : Product → Value
+product_value Empty = values.Num (pos 0)
+product_value (Within p) = values.Num p
+product_value Beyond = values.Error errors.Num
 
 -- the lesser of what was kept and a number
 abbrev pub lesser : Option ℤ → ℤ → Option ℤ

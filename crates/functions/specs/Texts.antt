@@ -138,16 +138,16 @@ single_spaced (c ∷ []) = c ∷ []
 single_spaced (c ∷ d ∷ cs) = if c == 32 && d == 32 then single_spaced (d ∷ cs) else c ∷ single_spaced (d ∷ cs)
 
 -- no spaces at the ends, and inner runs of spaces made one
-abbrev pub tidied : List ℕ → List ℕ
-tidied cs = single_spaced (before_spaces (after_spaces cs))
+abbrev pub single_spacing_of : List ℕ → List ℕ
+single_spacing_of cs = single_spaced (before_spaces (after_spaces cs))
 
 -- the bytes of a character, behind a space where one is wanted
-abbrev pub spaced : Bool → ℕ → List ℕ
-spaced wanted c = if wanted then 32 ∷ encode_utf8 c else encode_utf8 c
+abbrev pub character_behind_space : Bool → ℕ → List ℕ
+character_behind_space wanted c = if wanted then 32 ∷ encode_utf8 c else encode_utf8 c
 
 -- TRIM: the characters with no spaces at the ends and no runs of spaces
 abbrev pub trim_of : List Arg → Value
-trim_of args = on_text (λ t. values.Text (encode_utf8_all (tidied (chars t)))) (text_of (argument args 0))
+trim_of args = on_text (λ t. values.Text (encode_utf8_all (single_spacing_of (chars t)))) (text_of (argument args 0))
 
 -- EXACT: whether two texts are equal by their bytes
 abbrev pub exact_of : List Arg → Value

@@ -1,5 +1,5 @@
 ghost use Rattle.std.specs.Prelude.{◌≡◌, IfOk};
-ghost use Rattle.functions.specs.Applied.{applied, applied_by_name};
+ghost use Rattle.functions.specs.Applied.{result_of, result_by_name};
 ghost use Rattle.functions.specs.Functions.{function_named};
 ghost use Rattle.functions.specs.Inputs.{AreInputs};
 
@@ -15,7 +15,7 @@ impl Function {
     /// they are `#VALUE!`.
     pub fn apply(self, alloc: Global, args: &[Arg]) -> Result<Value, Memory>
         requires { AreInputs args.now }
-        ensures { IfOk result (λ answer. answer ≡ applied self args.now) }
+        ensures { IfOk result (λ answer. answer ≡ result_of self args.now) }
     {
         match self {
             Function::True => Ok(Value::Bool(true)),
@@ -64,7 +64,7 @@ impl Function {
 /// What the function of a name answers; a name of no function is `#NAME?`.
 pub fn apply(alloc: Global, name: &str, args: &[Arg]) -> Result<Value, Memory>
     requires { AreInputs args.now }
-    ensures { IfOk result (λ answer. answer ≡ applied_by_name (function_named name.now) args.now) }
+    ensures { IfOk result (λ answer. answer ≡ result_by_name (function_named name.now) args.now) }
 {
     match Function::of(name) {
         Some(function) => function.apply(alloc, args),

@@ -1,7 +1,7 @@
 ghost use Rattle.std.specs.Prelude.{◌≡◌, ◌+◌, ◌*◌, ◌≤◌, ◌^◌, length, IfOk};
 ghost use Rattle.std.specs.List.{filter_map};
-ghost use Rattle.functions.specs.Inputs.{all_ok, folded, AreInputs};
-ghost use Rattle.functions.specs.Gathering.{number_in_cell, numbers_of, gathered, sum_of, product_of, min_of, max_of};
+ghost use Rattle.functions.specs.Inputs.{all_ok, fold_of_values, AreInputs};
+ghost use Rattle.functions.specs.Gathering.{number_in_cell, numbers_of, numbers_or_error, sum_of, product_of, min_of, max_of};
 
 use super::arguments::Arg;
 use super::numbers::within;
@@ -11,8 +11,10 @@ use cell_values::{ErrorKind, Value, to_number};
 /// A tally with the numbers of an area.
 fn tally_cells<T: Tally>(start: T, values: &[Value]) -> Result<T, ErrorKind>
     requires { T.size start + 2 ^ 63 * length values.now ≤ 2 ^ 100 }
-    ensures numbers { result ≡ folded T.step start (all_ok (filter_map number_in_cell values.now)) }
-    ensures grown { IfOk result (λ tally. T.size tally ≤ T.size start + 2 ^ 63 * length values.now) }
+    ensures numbers { result ≡ fold_of_values T.step start
+        (all_ok (filter_map number_in_cell values.now)) }
+    ensures grown { IfOk result
+        (λ tally. T.size tally ≤ T.size start + 2 ^ 63 * length values.now) }
 {
     let mut tally = start;
     let mut left = values;
@@ -31,7 +33,7 @@ fn tally_cells<T: Tally>(start: T, values: &[Value]) -> Result<T, ErrorKind>
 fn tally<T: Tally>(start: T, args: &[Arg]) -> Result<T, ErrorKind>
     requires inputs { AreInputs args.now }
     requires room { T.size start ≤ 2 ^ 64 }
-    ensures { result ≡ folded T.step start (gathered args.now) }
+    ensures { result ≡ fold_of_values T.step start (numbers_or_error args.now) }
 {
     let mut tally = start;
     let mut left = args;

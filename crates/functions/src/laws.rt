@@ -18,7 +18,8 @@ pub fn a_modulus_is_what_the_floor_leaves()
 /// A quotient times its divisor, and what is left, make the number; what is left is nearer to 0 than the divisor.
 pub fn a_quotient_leaves_less_than_the_divisor()
     ensures meets { (n k q : ℤ) → whole_quotient n k ≡ Num q → q *ℤ k +ℤ int_rem n k ≡ n }
-    ensures small { (n k q : ℤ) → whole_quotient n k ≡ Num q → unsigned_abs (int_rem n k) < unsigned_abs k }
+    ensures small { (n k q : ℤ) → whole_quotient n k ≡ Num q
+        → unsigned_abs (int_rem n k) < unsigned_abs k }
 {}
 
 /// The sum of arguments in two parts is the sum of the parts' sums, where these are numbers.

@@ -1,7 +1,7 @@
 ghost use Rattle.std.specs.Prelude.{◌≡◌};
 ghost use Rattle.std.specs.List.{filter_map, flat_map};
 ghost use Rattle.cell_values.specs.Coercion.{truth_of};
-ghost use Rattle.functions.specs.Inputs.{all_ok, folded};
+ghost use Rattle.functions.specs.Inputs.{all_ok, fold_of_values};
 ghost use Rattle.functions.specs.Logic.{truth_in_cell, truths_of, truths, opposite, and_of, or_of, not_of};
 ghost use Rattle.functions.specs.Inputs.{argument};
 ghost use Rattle.functions.specs.Truths.{with_truth, NONE_SEEN};
@@ -12,7 +12,8 @@ use cell_values::{ErrorKind, Value, to_bool};
 
 /// What stands among the booleans of an area, after what was seen before.
 fn see_cells(seen: Truths, values: &[Value]) -> Result<Truths, ErrorKind>
-    ensures { result ≡ folded with_truth seen (all_ok (filter_map truth_in_cell values.now)) }
+    ensures { result ≡ fold_of_values with_truth seen
+        (all_ok (filter_map truth_in_cell values.now)) }
 {
     let mut seen = seen;
     let mut left = values;
@@ -30,7 +31,7 @@ fn see_cells(seen: Truths, values: &[Value]) -> Result<Truths, ErrorKind>
 
 /// What stands among the booleans of all arguments.
 fn see(args: &[Arg]) -> Result<Truths, ErrorKind>
-    ensures { result ≡ folded with_truth NONE_SEEN (truths args.now) }
+    ensures { result ≡ fold_of_values with_truth NONE_SEEN (truths args.now) }
 {
     let mut seen = Truths::none();
     let mut left = args;

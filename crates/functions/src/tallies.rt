@@ -85,11 +85,11 @@ pub enum Product {
 
 impl Product {
     ghost use Rattle.std.specs.Prelude.{◌≡◌};
-    ghost use Rattle.functions.specs.Tallies.{product_known, product_shown};
+    ghost use Rattle.functions.specs.Tallies.{product_so_far, product_value};
 
     /// What is kept of a product.
     fn of(n: i128) -> Product
-        ensures { result ≡ product_known n }
+        ensures { result ≡ product_so_far n }
     {
         if is_within(n) {
             Product::Within(n as i64)
@@ -100,7 +100,7 @@ impl Product {
 
     /// The product as a value, 0 of no number and `#NUM!` outside the magnitude.
     pub fn value(&self) -> Value
-        ensures { result ≡ product_shown self.now }
+        ensures { result ≡ product_value self.now }
     {
         match self {
             Product::Empty => Value::Num(0),

@@ -25,8 +25,10 @@ pub(crate) fn concatenate(alloc: Global, args: &[Arg]) -> Result<Value, Memory>
 
 /// The texts of all arguments in order, or the first error.
 fn joined(alloc: Global, args: &[Arg]) -> Result<Result<String, ErrorKind>, Memory>
-    ensures texts { IfOk result (λ all. MatchResult all (λ s. all_texts args.now ≡ Ok (string_bytes s)) (λ kind. all_texts args.now ≡ Err kind)) }
-    ensures plain { IfOk result (λ all. IfOk all (λ s. list_any is_ascii_control (string_bytes s) ≡ false)) }
+    ensures texts { IfOk result (λ all. MatchResult all (λ s. all_texts args.now
+        ≡ Ok (string_bytes s)) (λ kind. all_texts args.now ≡ Err kind)) }
+    ensures plain { IfOk result (λ all. IfOk all (λ s. list_any is_ascii_control (string_bytes s)
+        ≡ false)) }
 {
     let mut all = String::new(alloc);
     for arg in args {

@@ -4,7 +4,7 @@ ghost use Rattle.std.specs.List.{repeat};
 ghost use Rattle.std.specs.Str.{chars, encode_utf8_all};
 ghost use Rattle.std.specs.String.{string_bytes};
 ghost use Rattle.cell_values.specs.Text.{if_short};
-ghost use Rattle.functions.specs.Texts.{text_or_fault, in_upper_case, in_lower_case, upper_of, lower_of, rept_part, rept_of, tidied, trim_of, spaced};
+ghost use Rattle.functions.specs.Texts.{text_or_fault, in_upper_case, in_lower_case, upper_of, lower_of, rept_part, rept_of, single_spacing_of, trim_of, character_behind_space};
 
 use super::arguments::{Arg, number_at, text_at};
 use super::text_answers::text_value;
@@ -130,7 +130,8 @@ pub(crate) fn trim(alloc: Global, args: &[Arg]) -> Result<Value, Memory>
 
 /// A text with no spaces at the ends and no runs of spaces.
 fn trim_text(alloc: Global, text: &Text) -> Result<Value, Memory>
-    ensures { IfOk result (λ value. value ≡ Value.Text (encode_utf8_all (tidied (chars text.now)))) }
+    ensures { IfOk result (λ value. value ≡ Value.Text
+        (encode_utf8_all (single_spacing_of (chars text.now)))) }
 {
     match tidied(alloc, text.as_str()) {
         Ok(tidy) => text_value(alloc, tidy.as_str()),
@@ -140,7 +141,8 @@ fn trim_text(alloc: Global, text: &Text) -> Result<Value, Memory>
 
 /// The characters with no spaces at the ends and no runs of spaces.
 fn tidied(alloc: Global, text: &str) -> Result<String, AllocError>
-    ensures { IfOk result (λ tidy. string_bytes tidy ≡ encode_utf8_all (tidied (chars text.now))) }
+    ensures { IfOk result (λ tidy. string_bytes tidy
+        ≡ encode_utf8_all (single_spacing_of (chars text.now))) }
 {
     let mut tidy = String::new(alloc);
     let mut is_spaced = false;
@@ -157,7 +159,8 @@ fn tidied(alloc: Global, text: &str) -> Result<String, AllocError>
 
 /// Appends a character, behind a space where one is wanted.
 fn push_spaced(tidy: &mut String, is_spaced: bool, c: char) -> Result<(), AllocError>
-    ensures { OnOk result (string_bytes tidy.new ≡ string_bytes tidy.old ++ spaced is_spaced c) }
+    ensures { OnOk result (string_bytes tidy.new ≡ string_bytes tidy.old
+        ++ character_behind_space is_spaced c) }
 {
     if is_spaced {
         tidy.push(' ')?;

@@ -17,7 +17,7 @@ use Rattle.cell_refs.proofs.CellOrder.{exact_cells, cells_total}
 use Rattle.cell_values.specs.declared.values.Value.{Value}
 use Rattle.workbook.specs.declared.contents.Content.{Content}
 use Rattle.workbook.specs.Book.{IsInOrder, content_at, has_formula, is_formula, formula_cells, formula_count, exceeds_cells, exceeds_formulas}
-use Rattle.workbook.specs.Meaning.{meaning, shown, sheet_of}
+use Rattle.workbook.specs.Meaning.{meaning, shown_value, sheet_of}
 use Rattle.workbook.specs.Stale.{is_among, is_stale, reaches, stale_count}
 use Rattle.workbook.proofs.Cells.{same_cell_is, same_cells}
 use Rattle.workbook.proofs.Entries.{own_content}
@@ -28,7 +28,7 @@ use Rattle.workbook.specs.declared.commands.Command.{Command}
 use Rattle.workbook.specs.declared.commands.Command.TheVariants as commands
 use Rattle.workbook.specs.declared.replies.Reply.TheVariants as replies
 use Rattle.workbook.specs.State.{State, alone, reply_to, state_after, reply_at_rest, reply_in_round, after_at_rest, after_in_round, reply_to_set}
-use Rattle.workbook.specs.Book.{SetsContent, named_cells}
+use Rattle.workbook.specs.Book.{SetsContent, cell_precedents}
 use Rattle.workbook.proofs.Walking.{any_alike}
 use Rattle.workbook.proofs.Reaching.{or_false}
 use Rattle.rtdhost.specs.Marking.{AddsCell}
@@ -43,8 +43,8 @@ module _ (before book : List (Cell × Content)) (changed : List Cell) (before_or
   still_shown : (sheet : List (Cell × Option Value)) → ((c : Cell) → ShowsMeaning before sheet c) → (q : Cell) → is_among changed q ≡ false → is_stale book changed q ≡ false → ShowsMeaning book sheet q
   still_shown sheet shows q unchanged fresh =
       shows q
-      ∙ ap (option_map (λ _. shown (meaning alone before q))) (kept q unchanged)
-      ∙ ap (λ m. option_map (λ _. shown m) (content_at book q)) (meaning-kept_clean alone before book changed before_ordered ordered kept q unchanged fresh)
+      ∙ ap (option_map (λ _. shown_value (meaning alone before q))) (kept q unchanged)
+      ∙ ap (λ m. option_map (λ _. shown_value m) (content_at book q)) (meaning-kept_clean alone before book changed before_ordered ordered kept q unchanged fresh)
 
   changed_stale : (q : Cell) → is_formula book q ≡ true → is_among changed q ≡ true → is_stale book changed q ≡ true
   changed_stale q formula hit = and_from _ _ formula (reaches-among book ordered changed (formula_count book) q hit)
@@ -55,7 +55,7 @@ module _ (before book : List (Cell × Content)) (changed : List Cell) (before_or
     | false ↦ λ _. refl
   ] refl
 
-  some_shown : (q : Cell) (o : Option Content) → has_formula o ≡ true → option_map (λ _. shown (meaning alone book q)) o ≡ Some (shown (meaning alone book q))
+  some_shown : (q : Cell) (o : Option Content) → has_formula o ≡ true → option_map (λ _. shown_value (meaning alone book q)) o ≡ Some (shown_value (meaning alone book q))
   some_shown q None h = cc
   some_shown q (Some x) h = refl
 
@@ -135,15 +135,15 @@ sorted_where [] ordered = refl
 sorted_where (e ∷ es) ordered =
     and_from _ _ (below_where e.0 es (sorted_head cell_cmp e.0 (keys_of es) ordered)) (sorted_where es (sorted_tail cell_cmp e.0 (keys_of es) ordered))
 
-shown_keys : (book es : List (Cell × Content)) → keys_of (map (λ e. (e.0, shown (meaning alone book e.0))) es) ≡ keys_of es
+shown_keys : (book es : List (Cell × Content)) → keys_of (map (λ e. (e.0, shown_value (meaning alone book e.0))) es) ≡ keys_of es
 shown_keys book [] = refl
 shown_keys book (e ∷ es) = ap (λ ks. e.0 ∷ ks) (shown_keys book es)
 
-shown_lookup : (book es : List (Cell × Content)) (q : Cell) → lookup (same_cell q) (map (λ e. (e.0, shown (meaning alone book e.0))) es) ≡ option_map (λ _. shown (meaning alone book q)) (lookup (same_cell q) es)
+shown_lookup : (book es : List (Cell × Content)) (q : Cell) → lookup (same_cell q) (map (λ e. (e.0, shown_value (meaning alone book e.0))) es) ≡ option_map (λ _. shown_value (meaning alone book q)) (lookup (same_cell q) es)
 shown_lookup book [] q = refl
 shown_lookup book (e ∷ es) q = elim (same_cell q e.0) as (λ b. same_cell q e.0 ≡ b
-    → cond b (Some (shown (meaning alone book e.0))) (lookup (same_cell q) (map (λ d. (d.0, shown (meaning alone book d.0))) es)) ≡ option_map (λ _. shown (meaning alone book q)) (cond b (Some e.1) (lookup (same_cell q) es))) [
-      | true ↦ λ is. ap (λ c. Some (shown (meaning alone book c))) (sym (same_cell_is q e.0 is))
+    → cond b (Some (shown_value (meaning alone book e.0))) (lookup (same_cell q) (map (λ d. (d.0, shown_value (meaning alone book d.0))) es)) ≡ option_map (λ _. shown_value (meaning alone book q)) (cond b (Some e.1) (lookup (same_cell q) es))) [
+      | true ↦ λ is. ap (λ c. Some (shown_value (meaning alone book c))) (sym (same_cell_is q e.0 is))
       | false ↦ λ _. shown_lookup book es q
     ] refl
 
@@ -210,8 +210,8 @@ others_next completed book old new changed cell content was sets is kept q apart
 reaches_alike : (book : List (Cell × Content)) (one other : List Cell) → ((q : Cell) → is_among one q ≡ is_among other q) → (n : ℕ) (c : Cell) → reaches book one n c ≡ reaches book other n c
 reaches_alike book one other same zero c = same c
 reaches_alike book one other same (suc n) c =
-    ap (λ b. b || list_any (reaches book one n) (named_cells book c)) (same c)
-    ∙ ap (λ b. is_among other c || b) (any_alike _ _ (reaches_alike book one other same n) (named_cells book c))
+    ap (λ b. b || list_any (reaches book one n) (cell_precedents book c)) (same c)
+    ∙ ap (λ b. is_among other c || b) (any_alike _ _ (reaches_alike book one other same n) (cell_precedents book c))
 
 pub stale_count_alike : (book : List (Cell × Content)) (one other : List Cell) → ((q : Cell) → is_among one q ≡ is_among other q) → stale_count book one ≡ stale_count book other
 stale_count_alike book one other same =

@@ -16,11 +16,11 @@ use Rattle.formula_parse.specs.declared.nodes.Node.{Node}
 use Rattle.formula_parse.specs.Tree.{areas_named, precedents}
 use Rattle.workbook.specs.declared.contents.Content.{Content}
 use Rattle.workbook.specs.declared.contents.Content.TheVariants as contents
-use Rattle.workbook.specs.Book.{IsInOrder, content_at, has_formula, is_formula, named_by, named_cells, formula_cells, formula_count}
+use Rattle.workbook.specs.Book.{IsInOrder, content_at, has_formula, is_formula, content_precedents, cell_precedents, formula_cells, formula_count}
 use Rattle.workbook.specs.Circular.{walks_on, is_circular}
 use Rattle.workbook.specs.Evaluation as answers
-use Rattle.workbook.specs.Evaluation.{Answer, evaluated}
-use Rattle.workbook.specs.Meaning.{Meaning, Val, Circ, Asks, Open, world_at, meant, value_in, is_open, content_meaning, meaning, shown}
+use Rattle.workbook.specs.Evaluation.{Answer, answer_of}
+use Rattle.workbook.specs.Meaning.{Meaning, Val, Circ, Asks, Open, world_at, meaning_of_answer, value_in, is_open, content_meaning, meaning, shown_value}
 use Rattle.workbook.specs.Stale.{is_among}
 use Rattle.workbook.specs.State.{alone}
 use Rattle.workbook.proofs.Cells.{same_cell_is}
@@ -65,61 +65,61 @@ some_fails p q (x ∷ xs) each h = elim (p x) as (λ b. p x ≡ b → (b && list
 -- ---- what meanings show
 
 -- what shows a value is that value
-shown_value : (m : Meaning) (v : Value) → shown m ≡ Some v → m ≡ Val v
-shown_value (Val w) v h = cc
-shown_value Circ v h = cc
-shown_value (Asks site name args) v h = cc
-shown_value Open v h = cc
+value_shown : (m : Meaning) (v : Value) → shown_value m ≡ Some v → m ≡ Val v
+value_shown (Val w) v h = cc
+value_shown Circ v h = cc
+value_shown (Asks site name args) v h = cc
+value_shown Open v h = cc
 
 -- what shows a value isn't open
-shut : (m : Meaning) → is_some (shown m) ≡ true → is_open m ≡ false
+shut : (m : Meaning) → is_some (shown_value m) ≡ true → is_open m ≡ false
 shut (Val v) h = refl
 shut Circ h = refl
 shut (Asks site name args) h = cc
 shut Open h = cc
 
 -- an answer shows the value that it is
-answer_shown : (a : Answer) → shown (meant a) ≡ answer_value a
+answer_shown : (a : Answer) → shown_value (meaning_of_answer a) ≡ answer_value a
 answer_shown (answers.Val v) = refl
 answer_shown (answers.Asks site name args) = refl
 answer_shown (answers.Needs topic) = refl
 
 -- an answer that isn't open shows a value
-answer_shut : (a : Answer) → is_open (meant a) ≡ false → is_some (shown (meant a)) ≡ true
+answer_shut : (a : Answer) → is_open (meaning_of_answer a) ≡ false → is_some (shown_value (meaning_of_answer a)) ≡ true
 answer_shut (answers.Val v) h = refl
 answer_shut (answers.Asks site name args) h = cc
 answer_shut (answers.Needs topic) h = cc
 
 -- a content that isn't open shows a value
-formula_shut : (b : Bool) (a : Answer) → is_open (cond b Open (meant a)) ≡ false → is_some (shown (cond b Open (meant a))) ≡ true
+formula_shut : (b : Bool) (a : Answer) → is_open (cond b Open (meaning_of_answer a)) ≡ false → is_some (shown_value (cond b Open (meaning_of_answer a))) ≡ true
 formula_shut true a h = cc
 formula_shut false a h = answer_shut a h
 
-content_shut : (cell : Cell) (f : Cell → Meaning) (o : Option Content) → is_open (content_meaning alone cell f o) ≡ false → is_some (shown (content_meaning alone cell f o)) ≡ true
+content_shut : (cell : Cell) (f : Cell → Meaning) (o : Option Content) → is_open (content_meaning alone cell f o) ≡ false → is_some (shown_value (content_meaning alone cell f o)) ≡ true
 content_shut cell f None h = refl
 content_shut cell f (Some (contents.Num n)) h = refl
 content_shut cell f (Some (contents.Text t)) h = refl
 content_shut cell f (Some (contents.Bool b)) h = refl
 content_shut cell f (Some (contents.Error e)) h = refl
 content_shut cell f (Some (contents.Formula tree)) h =
-    formula_shut (list_any (λ d. is_open (f d)) (precedents tree cell.sheet)) (evaluated (world_at alone cell (λ d. value_in (f d))) tree) h
+    formula_shut (list_any (λ d. is_open (f d)) (precedents tree cell.sheet)) (answer_of (world_at alone cell (λ d. value_in (f d))) tree) h
 
 -- a formula that shows a value waits for none of the cells that it names
-formula_waits : (b : Bool) (a : Answer) → is_some (shown (cond b Open (meant a))) ≡ true → b ≡ false
+formula_waits : (b : Bool) (a : Answer) → is_some (shown_value (cond b Open (meaning_of_answer a))) ≡ true → b ≡ false
 formula_waits true a h = cc
 formula_waits false a h = refl
 
-content_waits : (cell : Cell) (f : Cell → Meaning) (o : Option Content) → is_some (shown (content_meaning alone cell f o)) ≡ true → list_any (λ d. is_open (f d)) (named_by o cell.sheet) ≡ false
+content_waits : (cell : Cell) (f : Cell → Meaning) (o : Option Content) → is_some (shown_value (content_meaning alone cell f o)) ≡ true → list_any (λ d. is_open (f d)) (content_precedents o cell.sheet) ≡ false
 content_waits cell f None h = refl
 content_waits cell f (Some (contents.Num n)) h = refl
 content_waits cell f (Some (contents.Text t)) h = refl
 content_waits cell f (Some (contents.Bool b)) h = refl
 content_waits cell f (Some (contents.Error e)) h = refl
 content_waits cell f (Some (contents.Formula tree)) h =
-    formula_waits (list_any (λ d. is_open (f d)) (precedents tree cell.sheet)) (evaluated (world_at alone cell (λ d. value_in (f d))) tree) h
+    formula_waits (list_any (λ d. is_open (f d)) (precedents tree cell.sheet)) (answer_of (world_at alone cell (λ d. value_in (f d))) tree) h
 
 -- what a formula shows that waits for none
-formula_shows : (b : Bool) (a : Answer) → b ≡ false → shown (cond b Open (meant a)) ≡ answer_value a
+formula_shows : (b : Bool) (a : Answer) → b ≡ false → shown_value (cond b Open (meaning_of_answer a)) ≡ answer_value a
 formula_shows true a h = cc
 formula_shows false a h = answer_shown a
 
@@ -127,7 +127,7 @@ formula_shows false a h = answer_shown a
 
 -- whether a cell has a value
 abbrev is_valued : List (Cell × Content) → Cell → Bool
-is_valued book c = is_some (shown (meaning alone book c))
+is_valued book c = is_some (shown_value (meaning alone book c))
 
 pub not_circular : (book : List (Cell × Content)) (n : ℕ) (c : Cell) → is_formula book c ≡ false → walks_on book n c ≡ false
 not_circular book n c constant = elim (walks_on book n c) as (λ b. walks_on book n c ≡ b → b ≡ false) [
@@ -138,7 +138,7 @@ not_circular book n c constant = elim (walks_on book n c) as (λ b. walks_on boo
 -- a cell with a value isn't circular
 valued_straight : (book : List (Cell × Content)) (c : Cell) → is_valued book c ≡ true → is_circular book c ≡ false
 valued_straight book c h = elim (is_circular book c) as (λ b. is_circular book c ≡ b → b ≡ false) [
-  | true ↦ λ e. absurd (true≢false (sym h ∙ ap (λ m. is_some (shown m)) (shows_circle alone book c e)))
+  | true ↦ λ e. absurd (true≢false (sym h ∙ ap (λ m. is_some (shown_value m)) (shows_circle alone book c e)))
   | false ↦ λ _. refl
 ] refl
 
@@ -153,27 +153,27 @@ FinishedWithin book stale n finished = (c : Cell) → is_among stale c ≡ true 
 
 module _ (book : List (Cell × Content)) (ordered : IsInOrder book) (stale : List Cell) (sheet : List (Cell × Option Value)) (others : ShowsOthers book stale sheet) where
   -- a cell with a value names cells with a value
-  valued_names : (c : Cell) → is_valued book c ≡ true → AllByRecursion (λ d. is_valued book d ≡ true) (named_cells book c)
+  valued_names : (c : Cell) → is_valued book c ≡ true → AllByRecursion (λ d. is_valued book d ≡ true) (cell_precedents book c)
   valued_names c h =
       let straight = valued_straight book c h in
       let unfolds = meaning-unfolds alone book ordered c straight in
-      let shut_all = content_waits c (meaning alone book) (content_at book c) (ap (λ m. is_some (shown m)) (sym unfolds) ∙ h) in
+      let shut_all = content_waits c (meaning alone book) (content_at book c) (ap (λ m. is_some (shown_value m)) (sym unfolds) ∙ h) in
       let straight_all = sym (circular-names book ordered c) ∙ straight in
-      each_leads _ _ valued (named_cells book c) (each_both _ _ (named_cells book c)
-      (none_where (λ d. is_open (meaning alone book d)) (λ d. is_open (meaning alone book d) ≡ false) (λ d e. e) (named_cells book c) shut_all)
-      (none_where (is_circular book) (λ d. is_circular book d ≡ false) (λ d e. e) (named_cells book c) straight_all))
+      each_leads _ _ valued (cell_precedents book c) (each_both _ _ (cell_precedents book c)
+      (none_where (λ d. is_open (meaning alone book d)) (λ d. is_open (meaning alone book d) ≡ false) (λ d e. e) (cell_precedents book c) shut_all)
+      (none_where (is_circular book) (λ d. is_circular book d ≡ false) (λ d e. e) (cell_precedents book c) straight_all))
     where
       valued : (d : Cell) → (is_open (meaning alone book d) ≡ false) × (is_circular book d ≡ false) → is_valued book d ≡ true
       valued d both =
           let unfolds = meaning-unfolds alone book ordered d both.1 in
-          ap (λ m. is_some (shown m)) unfolds ∙ content_shut d (meaning alone book) (content_at book d) (ap is_open (sym unfolds) ∙ both.0)
+          ap (λ m. is_some (shown_value m)) unfolds ∙ content_shut d (meaning alone book) (content_at book d) (ap is_open (sym unfolds) ∙ both.0)
 
   -- ---- what is known is meant
   formula_meant : (finished : List (Cell × Value)) → AreMeant book stale finished → (d : Cell) (v : Value) → is_formula book d ≡ true → known_formula stale sheet finished d ≡ Some v → meaning alone book d ≡ Val v
   formula_meant finished meant_all d v formula h =
       elim (is_among stale d) as (λ b. is_among stale d ≡ b → cond b (lookup (same_cell d) finished) (option_and_then (λ w. w) (lookup (same_cell d) sheet)) ≡ Some v → meaning alone book d ≡ Val v) [
         | true ↦ λ _ f. (meant_all d v f).1
-        | false ↦ λ e f. shown_value (meaning alone book d) v (sym (ap (option_and_then (λ w. w)) (others d formula e)) ∙ f)
+        | false ↦ λ e f. value_shown (meaning alone book d) v (sym (ap (option_and_then (λ w. w)) (others d formula e)) ∙ f)
       ] refl h
 
   known_cases : (finished : List (Cell × Value)) → AreMeant book stale finished → (d : Cell) (v : Value) (o : Option Content) → content_at book d ≡ o
@@ -201,18 +201,18 @@ module _ (book : List (Cell × Content)) (ordered : IsInOrder book) (stale : Lis
   -- a formula all of whose named cells have known values shows what it comes to over these
   shows_known : (finished : List (Cell × Value)) → AreMeant book stale finished → (c : Cell) (tree : Node) → content_at book c ≡ Some (contents.Formula tree)
       → list_all (λ d. is_some (known_input book stale sheet finished d)) (precedents tree c.sheet) ≡ true
-      → shown (meaning alone book c) ≡ answer_value (evaluated (world_at alone c (λ d. unwrap_or (known_input book stale sheet finished d) Blank)) tree)
+      → shown_value (meaning alone book c) ≡ answer_value (answer_of (world_at alone c (λ d. unwrap_or (known_input book stale sheet finished d) Blank)) tree)
   shows_known finished meant_all c tree is all =
-      let named : named_cells book c ≡ precedents tree c.sheet = ap (λ o. named_by o c.sheet) is in
+      let named : cell_precedents book c ≡ precedents tree c.sheet = ap (λ o. content_precedents o c.sheet) is in
       let means = each_passes _ (λ d. meaning alone book d ≡ Val (unwrap_or (known_input book stale sheet finished d) Blank)) (known_means finished meant_all) (precedents tree c.sheet) all in
       let straight : is_circular book c ≡ false =
       circular-names book ordered c ∙ ap (list_any (is_circular book)) named
-      ∙ none_of (is_circular book) (precedents tree c.sheet) (each_leads _ _ (λ d m. valued_straight book d (ap (λ n. is_some (shown n)) m)) (precedents tree c.sheet) means) in
+      ∙ none_of (is_circular book) (precedents tree c.sheet) (each_leads _ _ (λ d m. valued_straight book d (ap (λ n. is_some (shown_value n)) m)) (precedents tree c.sheet) means) in
       let shut_all : list_any (λ d. is_open (meaning alone book d)) (precedents tree c.sheet) ≡ false = none_of _ (precedents tree c.sheet) (each_leads _ _ (λ d m. ap is_open m) (precedents tree c.sheet) means) in
       let inputs = evaluated_alike (world_at alone c (λ d. value_in (meaning alone book d))) (λ d. value_in (meaning alone book d)) (λ d. unwrap_or (known_input book stale sheet finished d) Blank) tree
       (each_leads _ _ (λ d m. ap value_in m) (precedents tree c.sheet) means) in
-      ap shown (meaning-unfolds alone book ordered c straight ∙ ap (content_meaning alone c (meaning alone book)) is)
-      ∙ formula_shows (list_any (λ d. is_open (meaning alone book d)) (precedents tree c.sheet)) (evaluated (world_at alone c (λ d. value_in (meaning alone book d))) tree) shut_all
+      ap shown_value (meaning-unfolds alone book ordered c straight ∙ ap (content_meaning alone c (meaning alone book)) is)
+      ∙ formula_shows (list_any (λ d. is_open (meaning alone book d)) (precedents tree c.sheet)) (answer_of (world_at alone c (λ d. value_in (meaning alone book d))) tree) shut_all
       ∙ ap answer_value inputs
 
   -- a cell that is ready means its value
@@ -226,8 +226,8 @@ module _ (book : List (Cell × Content)) (ordered : IsInOrder book) (stale : Lis
   ready_cases finished meant_all c v (Some (contents.Formula tree)) is h =
       elim (list_all (λ d. is_some (known_input book stale sheet finished d)) (precedents tree c.sheet)) as (λ b.
       list_all (λ d. is_some (known_input book stale sheet finished d)) (precedents tree c.sheet) ≡ b
-      → cond b (answer_value (evaluated (world_at alone c (λ d. unwrap_or (known_input book stale sheet finished d) Blank)) tree)) None ≡ Some v → meaning alone book c ≡ Val v) [
-        | true ↦ λ all f. shown_value (meaning alone book c) v (shows_known finished meant_all c tree is all ∙ f)
+      → cond b (answer_value (answer_of (world_at alone c (λ d. unwrap_or (known_input book stale sheet finished d) Blank)) tree)) None ≡ Some v → meaning alone book c ≡ Val v) [
+        | true ↦ λ all f. value_shown (meaning alone book c) v (shows_known finished meant_all c tree is all ∙ f)
         | false ↦ λ _ f. cc
       ] refl h
 
@@ -276,19 +276,19 @@ module _ (book : List (Cell × Content)) (ordered : IsInOrder book) (stale : Lis
   -- ---- the stale cells have formulas
   module _ (formulas : (c : Cell) → is_among stale c ≡ true → is_formula book c ≡ true) where
     ready_formula : (finished : List (Cell × Value)) → AreMeant book stale finished → (c : Cell) (o : Option Content) → content_at book c ≡ o → has_formula o ≡ true → is_valued book c ≡ true
-        → list_all (λ d. is_some (known_input book stale sheet finished d)) (named_by o c.sheet) ≡ true → is_some (content_if_known (known_input book stale sheet finished) c o) ≡ true
+        → list_all (λ d. is_some (known_input book stale sheet finished d)) (content_precedents o c.sheet) ≡ true → is_some (content_if_known (known_input book stale sheet finished) c o) ≡ true
     ready_formula finished meant_all c None is h valued all = cc
     ready_formula finished meant_all c (Some (contents.Num n)) is h valued all = cc
     ready_formula finished meant_all c (Some (contents.Text t)) is h valued all = cc
     ready_formula finished meant_all c (Some (contents.Bool b)) is h valued all = cc
     ready_formula finished meant_all c (Some (contents.Error e)) is h valued all = cc
     ready_formula finished meant_all c (Some (contents.Formula tree)) is h valued all =
-        ap (λ b. is_some (cond b (answer_value (evaluated (world_at alone c (λ d. unwrap_or (known_input book stale sheet finished d) Blank)) tree)) None)) all
+        ap (λ b. is_some (cond b (answer_value (answer_of (world_at alone c (λ d. unwrap_or (known_input book stale sheet finished d) Blank)) tree)) None)) all
         ∙ ap is_some (sym (shows_known finished meant_all c tree is all)) ∙ valued
 
     -- a stale cell with a value is ready where all that it names is known
     ready_where : (finished : List (Cell × Value)) → AreMeant book stale finished → (c : Cell) → is_among stale c ≡ true → is_valued book c ≡ true
-        → list_all (λ d. is_some (known_input book stale sheet finished d)) (named_cells book c) ≡ true → is_some (ready_value book stale sheet finished c) ≡ true
+        → list_all (λ d. is_some (known_input book stale sheet finished d)) (cell_precedents book c) ≡ true → is_some (ready_value book stale sheet finished c) ≡ true
     ready_where finished meant_all c e valued all = ready_formula finished meant_all c (content_at book c) refl (formulas c e) valued all
 
     false_where : (a b : Bool) → (a ≡ true → b ≡ true) → b ≡ false → a ≡ false
@@ -300,21 +300,21 @@ module _ (book : List (Cell × Content)) (ordered : IsInOrder book) (stale : Lis
         → (n : ℕ) (c : Cell) → is_among stale c ≡ true → is_valued book c ≡ true → is_some (lookup (same_cell c) finished) ≡ false → walks_on book n c ≡ true
     left_walks finished meant_all idle zero c e valued left = formulas c e
     left_walks finished meant_all idle (suc n) c e valued left =
-        let unready : list_all (λ d. is_some (known_input book stale sheet finished d)) (named_cells book c) ≡ false =
+        let unready : list_all (λ d. is_some (known_input book stale sheet finished d)) (cell_precedents book c) ≡ false =
         false_where _ _ (λ all. idle c (formula_cells-has book ordered c ∙ formulas c e) e (ready_where finished meant_all c e valued all)) left in
-        some_fails _ (walks_on book n) (named_cells book c) (each_leads _ (λ d. is_some (known_input book stale sheet finished d) ≡ false → walks_on book n d ≡ true)
+        some_fails _ (walks_on book n) (cell_precedents book c) (each_leads _ (λ d. is_some (known_input book stale sheet finished d) ≡ false → walks_on book n d ≡ true)
         (λ d named unknown. let both = left_when finished d named unknown in left_walks finished meant_all idle n d both.0 named both.1)
-        (named_cells book c) (valued_names c valued)) unready
+        (cell_precedents book c) (valued_names c valued)) unready
 
     exactly : (finished : List (Cell × Value)) → AreMeant book stale finished → ((c : Cell) → is_among stale c ≡ true → is_valued book c ≡ true → is_some (lookup (same_cell c) finished) ≡ true)
         → IsEvaluated book stale finished
-    exactly finished meant_all all c e = elim (lookup (same_cell c) finished) as (λ o. lookup (same_cell c) finished ≡ o → o ≡ shown (meaning alone book c)) [
+    exactly finished meant_all all c e = elim (lookup (same_cell c) finished) as (λ o. lookup (same_cell c) finished ≡ o → o ≡ shown_value (meaning alone book c)) [
       | None ↦ λ f. none_shown f
-      | Some v ↦ λ f. sym (ap shown (meant_all c v f).1)
+      | Some v ↦ λ f. sym (ap shown_value (meant_all c v f).1)
     ] refl
       where
-        none_shown : lookup (same_cell c) finished ≡ None → None ≡ shown (meaning alone book c)
-        none_shown f = elim (shown (meaning alone book c)) as (λ o. shown (meaning alone book c) ≡ o → None ≡ o) [
+        none_shown : lookup (same_cell c) finished ≡ None → None ≡ shown_value (meaning alone book c)
+        none_shown f = elim (shown_value (meaning alone book c)) as (λ o. shown_value (meaning alone book c) ≡ o → None ≡ o) [
           | None ↦ λ _. refl
           | Some v ↦ λ g. absurd (true≢false (sym (all c e (ap is_some g)) ∙ ap is_some f))
         ] refl
@@ -333,10 +333,10 @@ module _ (book : List (Cell × Content)) (ordered : IsInOrder book) (stale : Lis
     pub finished-next : (n : ℕ) (old new : List (Cell × Value)) (cells : List Cell) → cells ≡ formula_cells book → AreMeant book stale old → FinishedWithin book stale n old → FinishesReady book stale sheet old cells new → FinishedWithin book stale (n + 1) new
     finished-next n old new cells all meant_all within ready c e valued straight =
         let steps : walks_on book (suc n) c ≡ false = subst (λ m. walks_on book m c ≡ false) one_more straight in
-        let known : AllByRecursion (λ d. is_some (known_input book stale sheet old d) ≡ true) (named_cells book c) =
-        each_leads _ _ (λ d both. known_when old d both.0 (λ f. within d f both.0 both.1)) (named_cells book c)
-        (each_both _ _ (named_cells book c) (valued_names c valued) (none_where (walks_on book n) (λ d. walks_on book n d ≡ false) (λ d f. f) (named_cells book c) steps)) in
-        subst (λ cs. FinishesReady book stale sheet old cs new) all ready c (formula_cells-has book ordered c ∙ formulas c e) e (ready_where old meant_all c e valued (all_from _ (named_cells book c) known))
+        let known : AllByRecursion (λ d. is_some (known_input book stale sheet old d) ≡ true) (cell_precedents book c) =
+        each_leads _ _ (λ d both. known_when old d both.0 (λ f. within d f both.0 both.1)) (cell_precedents book c)
+        (each_both _ _ (cell_precedents book c) (valued_names c valued) (none_where (walks_on book n) (λ d. walks_on book n d ≡ false) (λ d f. f) (cell_precedents book c) steps)) in
+        subst (λ cs. FinishesReady book stale sheet old cs new) all ready c (formula_cells-has book ordered c ∙ formulas c e) e (ready_where old meant_all c e valued (all_from _ (cell_precedents book c) known))
       where
         one_more : n + 1 ≡ suc n
         one_more = omega arith
@@ -354,13 +354,13 @@ module _ (book : List (Cell × Content)) (ordered : IsInOrder book) (stale : Lis
 
 -- inputs that give each cell that a formula names its known value give the formula its value
 pub value_over : (known : Cell → Option Value) (cell : Cell) (tree : Node) (areas : List Area) (inputs : List (Cell × Value)) → areas ≡ areas_named tree cell.sheet → AreInputs known areas (Some inputs)
-    → answer_value (evaluated (world_at alone cell (input_of inputs)) tree) ≡ value_if_known known cell tree
+    → answer_value (answer_of (world_at alone cell (input_of inputs)) tree) ≡ value_if_known known cell tree
 value_over known cell tree areas inputs named given =
     let each = subst (λ list. AllByRecursion (λ d. known d ≡ Some (input_of inputs d)) (flat_map cells_of list)) named given in
     let alike = evaluated_alike (world_at alone cell (input_of inputs)) (input_of inputs) (λ d. unwrap_or (known d) Blank) tree
     (each_leads _ _ (λ d is. sym (ap (λ o. unwrap_or o Blank) is)) (precedents tree cell.sheet) each) in
     ap answer_value alike
-    ∙ sym (ap (λ b. cond b (answer_value (evaluated (world_at alone cell (λ d. unwrap_or (known d) Blank)) tree)) None)
+    ∙ sym (ap (λ b. cond b (answer_value (answer_of (world_at alone cell (λ d. unwrap_or (known d) Blank)) tree)) None)
     (all_from (λ d. is_some (known d)) (precedents tree cell.sheet) (each_leads _ _ (λ d is. ap is_some is) (precedents tree cell.sheet) each)))
 
 -- ---- one pass
@@ -387,12 +387,12 @@ known_more book stale sheet old new keeps d (Some (contents.Formula tree)) h =
 value_more : (known known' : Cell → Option Value) (c : Cell) (tree : Node) → ((d : Cell) → is_some (known d) ≡ true → known d ≡ known' d) → is_some (value_if_known known c tree) ≡ true
     → is_some (value_if_known known' c tree) ≡ true
 value_more known known' c tree same h = elim (list_all (λ d. is_some (known d)) (precedents tree c.sheet)) as (λ b. list_all (λ d. is_some (known d)) (precedents tree c.sheet) ≡ b
-    → is_some (cond b (answer_value (evaluated (world_at alone c (λ d. unwrap_or (known d) Blank)) tree)) None) ≡ true → is_some (value_if_known known' c tree) ≡ true) [
+    → is_some (cond b (answer_value (answer_of (world_at alone c (λ d. unwrap_or (known d) Blank)) tree)) None) ≡ true → is_some (value_if_known known' c tree) ≡ true) [
       | true ↦ λ all f.
           let alike = each_passes (λ d. is_some (known d)) (λ d. (is_some (known' d) ≡ true) × (unwrap_or (known d) Blank ≡ unwrap_or (known' d) Blank))
           (λ d some. (ap is_some (sym (same d some)) ∙ some, ap (λ o. unwrap_or o Blank) (same d some))) (precedents tree c.sheet) all in
           let inputs = evaluated_alike (world_at alone c (λ d. unwrap_or (known d) Blank)) (λ d. unwrap_or (known d) Blank) (λ d. unwrap_or (known' d) Blank) tree (each_leads _ _ (λ d both. both.1) (precedents tree c.sheet) alike) in
-          ap (λ b. is_some (cond b (answer_value (evaluated (world_at alone c (λ d. unwrap_or (known' d) Blank)) tree)) None)) (all_from _ (precedents tree c.sheet) (each_leads _ _ (λ d both. both.0) (precedents tree c.sheet) alike))
+          ap (λ b. is_some (cond b (answer_value (answer_of (world_at alone c (λ d. unwrap_or (known' d) Blank)) tree)) None)) (all_from _ (precedents tree c.sheet) (each_leads _ _ (λ d both. both.0) (precedents tree c.sheet) alike))
           ∙ ap (λ a. is_some (answer_value a)) (sym inputs) ∙ f
       | false ↦ λ _ f. cc
     ] refl h

@@ -7,7 +7,7 @@ use Rattle.rtdhost.specs.declared.lines.Line.TheVariants.{Bytes, TooLong, End}
 use Rattle.rtdhost.specs.declared.lines.LineFault.{LineFault}
 use Rattle.rtdhost.specs.declared.lines.LineFault.TheVariants.{Read, Limit, Memory}
 use Rattle.rtdhost.specs.Lines.{lines_of, whole_lines, LacksFeed, IsWhole}
-use Rattle.rtdhost.specs.Reading.{Reading, held, Moves, Leaves, Spells, SpellsLine, HasGiven, IsTextOf}
+use Rattle.rtdhost.specs.Reading.{Reading, backlog_of, Moves, Leaves, Spells, SpellsLine, HasGiven, IsTextOf}
 use Rattle.rtdhost.proofs.LineLaws.{lines_of-append, IsWhole-append, whole_lines-rest}
 
 -- a new reader has given nothing
@@ -31,7 +31,7 @@ behind all given pending came raw pending' left left' e moved told =
     ∙ sym (append_assoc given raw (pending' ++ left'))
 
 -- one line more
-given_more : (all : List ℕ) (lines : List (List ℕ)) (old new : Reading) (left left' raw text : List ℕ) → HasGiven all lines old left → old.ended ≡ false → SpellsLine raw new.ended text → Moves (held old) (held new) (Some left) (Some left') raw → HasGiven all (lines ++ text ∷ []) new left'
+given_more : (all : List ℕ) (lines : List (List ℕ)) (old new : Reading) (left left' raw text : List ℕ) → HasGiven all lines old left → old.ended ≡ false → SpellsLine raw new.ended text → Moves (backlog_of old) (backlog_of new) (Some left) (Some left') raw → HasGiven all (lines ++ text ∷ []) new left'
 given_more all lines old new left left' raw text had going spelled moved =
     let whole = whole_before had.given old.ended going had.whole in
     record {
@@ -51,7 +51,7 @@ given_more all lines old new left left' raw text had going spelled moved =
     }
 
 -- a line that is answered is one line more
-pub HasGiven-line : (all : List ℕ) (lines : List (List ℕ)) (old new : Reading) (left left' raw : List ℕ) (line : Line) → HasGiven all lines old left → old.ended ≡ false → (line ≡ End → ⊥) → Spells raw new.ended line → Moves (held old) (held new) (Some left) (Some left') raw → (text : List ℕ) × IsTextOf text line × HasGiven all (lines ++ text ∷ []) new left'
+pub HasGiven-line : (all : List ℕ) (lines : List (List ℕ)) (old new : Reading) (left left' raw : List ℕ) (line : Line) → HasGiven all lines old left → old.ended ≡ false → (line ≡ End → ⊥) → Spells raw new.ended line → Moves (backlog_of old) (backlog_of new) (Some left) (Some left') raw → (text : List ℕ) × IsTextOf text line × HasGiven all (lines ++ text ∷ []) new left'
 HasGiven-line all lines old new left left' raw (Bytes line) had going answered spelled moved =
     (line.items, refl, given_more all lines old new left left' raw line.items had going spelled.0 moved)
 HasGiven-line all lines old new left left' raw TooLong had going answered spelled moved =
@@ -74,7 +74,7 @@ whole_taken all given pending came pending' rest taken bytes moved count whole l
     ap whole_lines (ap (take taken) regrouped ∙ take_at front rest taken fits) ∙ whole_lines-rest given pending' whole lacks
 
 -- at a fault of the source and at the limit they are the whole lines of all the bytes that were taken
-pub lines_at_fault : (all : List ℕ) (lines : List (List ℕ)) (old new : Reading) (left : List ℕ) (left' : Option (List ℕ)) (fault : LineFault) → HasGiven all lines old left → old.ended ≡ false → (fault ≡ Memory → ⊥) → Leaves fault (held old) (held new) (Some left) left' → whole_lines (take new.taken all) ≡ lines
+pub lines_at_fault : (all : List ℕ) (lines : List (List ℕ)) (old new : Reading) (left : List ℕ) (left' : Option (List ℕ)) (fault : LineFault) → HasGiven all lines old left → old.ended ≡ false → (fault ≡ Memory → ⊥) → Leaves fault (backlog_of old) (backlog_of new) (Some left) left' → whole_lines (take new.taken all) ≡ lines
 lines_at_fault all lines old new left None Read had going known leaves = absurd leaves.0.told
 lines_at_fault all lines old new left (Some left') Read had going known leaves =
     let moved = leaves.0 in

@@ -8,7 +8,7 @@ use Rattle.cell_refs.specs.Cell.{same_cell}
 use Rattle.workbook.proofs.Cells.{same_cell_is, same_cells}
 use Rattle.workbook.proofs.Walking.{any_leads}
 use Rattle.workbook.specs.declared.contents.Content.{Content}
-use Rattle.workbook.specs.Book.{IsInOrder, named_cells, is_formula, formula_cells, formula_count}
+use Rattle.workbook.specs.Book.{IsInOrder, cell_precedents, is_formula, formula_cells, formula_count}
 use Rattle.workbook.specs.Stale.{is_among, is_stale, reaches}
 use Rattle.workbook.proofs.Reaching.{or_left, reaches-among, reaches-enough, reaches-constant}
 use Rattle.workbook.proofs.Steps.{formula_cells-has, formula_cells-count}
@@ -39,7 +39,7 @@ or_leads false b c leads h = leads h
 -- more marks touch more
 pub touched-more : (book : List (Cell × Content)) (changed old new : List Cell) → KeepsMarks old new → (cell : Cell) → is_touched book changed old cell ≡ true → is_touched book changed new cell ≡ true
 touched-more book changed old new keeps cell h =
-    or_leads (is_among changed cell) _ _ (any_leads _ _ (λ d. or_leads (is_among changed d) _ _ (keeps d)) (named_cells book cell)) h
+    or_leads (is_among changed cell) _ _ (any_leads _ _ (λ d. or_leads (is_among changed d) _ _ (keeps d)) (cell_precedents book cell)) h
 
 -- one more of the cells is done
 pub touched-next : (book : List (Cell × Content)) (changed start old new cells : List Cell) (i : ℕ) (d : Cell) → i < length cells
@@ -64,7 +64,7 @@ hot_reaches book ordered changed marks stale d h = elim (or_cases (is_among chan
 pub touched-stale : (book : List (Cell × Content)) → IsInOrder book → (changed marks : List Cell) → AreStale book changed marks → (cell : Cell) → is_formula book cell ≡ true → is_touched book changed marks cell ≡ true → is_stale book changed cell ≡ true
 touched-stale book ordered changed marks stale cell formula touched =
     and_from _ _ formula (sym (reaches-enough book ordered changed cell)
-    ∙ or_leads (is_among changed cell) _ _ (any_leads _ _ (hot_reaches book ordered changed marks stale) (named_cells book cell)) touched)
+    ∙ or_leads (is_among changed cell) _ _ (any_leads _ _ (hot_reaches book ordered changed marks stale) (cell_precedents book cell)) touched)
 
 -- what is reached in some steps is changed or marked, where marking stopped
 pub closed-reached : (book : List (Cell × Content)) → IsInOrder book → (changed marks : List Cell) → MarksTouched book changed marks (formula_cells book) marks
@@ -72,7 +72,7 @@ pub closed-reached : (book : List (Cell × Content)) → IsInOrder book → (cha
 closed-reached book ordered changed marks closed zero c h = or_left _ _ h
 closed-reached book ordered changed marks closed (suc n) c h = elim (is_formula book c) as (λ b. is_formula book c ≡ b → is_hot changed marks c ≡ true) [
   | true ↦ λ formula. or_right _ _ (closed c (formula_cells-has book ordered c ∙ formula)
-      (or_leads (is_among changed c) _ _ (any_leads _ _ (closed-reached book ordered changed marks closed n) (named_cells book c)) h))
+      (or_leads (is_among changed c) _ _ (any_leads _ _ (closed-reached book ordered changed marks closed n) (cell_precedents book c)) h))
   | false ↦ λ constant. or_left _ _ (sym (reaches-constant book changed (suc n) c constant) ∙ h)
 ] refl
 
@@ -83,7 +83,7 @@ HotWithin book changed n marks = (c : Cell) → reaches book changed n c ≡ tru
 pub hot-next : (book : List (Cell × Content)) → IsInOrder book → (changed old new : List Cell) (n : ℕ) → HotWithin book changed n old → MarksTouched book changed old (formula_cells book) new → HotWithin book changed (n + 1) new
 hot-next book ordered changed old new n hot marked c h = elim (is_formula book c) as (λ b. is_formula book c ≡ b → is_hot changed new c ≡ true) [
   | true ↦ λ formula. or_right _ _ (marked c (formula_cells-has book ordered c ∙ formula)
-      (or_leads (is_among changed c) _ _ (any_leads _ _ hot (named_cells book c)) (subst (λ m. reaches book changed m c ≡ true) one_more h)))
+      (or_leads (is_among changed c) _ _ (any_leads _ _ hot (cell_precedents book c)) (subst (λ m. reaches book changed m c ≡ true) one_more h)))
   | false ↦ λ constant. or_left _ _ (sym (reaches-constant book changed (n + 1) c constant) ∙ h)
 ] refl
   where

@@ -6,7 +6,7 @@ use Rattle.rtdhost.specs.declared.lines.Line.{Line}
 use Rattle.rtdhost.specs.declared.lines.Line.TheVariants.{Bytes, TooLong, End}
 use Rattle.rtdhost.specs.declared.lines.LineFault.{LineFault}
 use Rattle.rtdhost.specs.Lines.{lines_of, LacksFeed, without_return, IsFirstFeed}
-use Rattle.rtdhost.specs.Reading.{Held, Reading, held, consumed, Moves, Spells, SpellsLine, IsAnswered, IsLastAnswered, IsFirstOf, IsFirstLeft, Advances}
+use Rattle.rtdhost.specs.Reading.{Backlog, Reading, backlog_of, given_out_count, Moves, Spells, SpellsLine, IsAnswered, IsLastAnswered, IsFirstOf, IsFirstLeft, Advances}
 use Rattle.rtdhost.proofs.LineLaws.{lines_of-line, lines_of-last, lines_of-append, IsWhole-line}
 
 -- an answered line goes out as its text
@@ -24,10 +24,10 @@ text_of_feed bytes place first =
     ∙ sym (append_assoc (take place bytes) (10 ∷ []) (drop (place + 1) bytes))
 
 -- a line with its LF goes out
-pub moves_line : (old mid new : Held) (left left' : Option (List ℕ)) (place : ℕ) (ended : Bool) (line : Line) → Moves old mid left left' [] → IsFirstFeed mid.pending place → IsAnswered (without_return (take place mid.pending)) line → new ≡ record mid { pending = drop (place + 1) mid.pending } → (raw : List ℕ) × Spells raw ended line × Moves old new left left' raw
+pub moves_line : (old mid new : Backlog) (left left' : Option (List ℕ)) (place : ℕ) (ended : Bool) (line : Line) → Moves old mid left left' [] → IsFirstFeed mid.pending place → IsAnswered (without_return (take place mid.pending)) line → new ≡ record mid { pending = drop (place + 1) mid.pending } → (raw : List ℕ) × Spells raw ended line × Moves old new left left' raw
 moves_line old mid new left left' place ended line moved first answered e =
     let raw = take place mid.pending ++ 10 ∷ [] in
-    let motive : Held → Type 0 = λ h. (raw : List ℕ) × Spells raw ended line × Moves old h left left' raw in
+    let motive : Backlog → Type 0 = λ h. (raw : List ℕ) × Spells raw ended line × Moves old h left left' raw in
     subst motive (sym e) (
       raw,
       spells_line raw ended _ line (lines_of-line (take place mid.pending) first.before, inl (IsWhole-line (take place mid.pending))) answered,
@@ -39,7 +39,7 @@ moves_line old mid new left left' place ended line moved first answered e =
       },
     )
 
-pub moves_answer : (r : Result Line LineFault) (old mid new : Held) (left left' : Option (List ℕ)) (place : ℕ) (ended : Bool) → Moves old mid left left' [] → IsFirstFeed mid.pending place → IfOk r (IsAnswered (without_return (take place mid.pending))) → OnOk r (new ≡ record mid { pending = drop (place + 1) mid.pending }) → IfOk r (λ line. (raw : List ℕ) × Spells raw ended line × Moves old new left left' raw)
+pub moves_answer : (r : Result Line LineFault) (old mid new : Backlog) (left left' : Option (List ℕ)) (place : ℕ) (ended : Bool) → Moves old mid left left' [] → IsFirstFeed mid.pending place → IfOk r (IsAnswered (without_return (take place mid.pending))) → OnOk r (new ≡ record mid { pending = drop (place + 1) mid.pending }) → IfOk r (λ line. (raw : List ℕ) × Spells raw ended line × Moves old new left left' raw)
 moves_answer (Ok line) old mid new left left' place ended moved first answered e =
     moves_line old mid new left left' place ended line moved first answered e
 moves_answer (Err fault) old mid new left left' place ended moved first answered e = tt
@@ -51,9 +51,9 @@ spells_last [] line lacks answered =
 spells_last (b ∷ bs) line lacks answered =
     spells_line (b ∷ bs) true (b ∷ bs) line (lines_of-last b bs lacks, inr refl) answered
 
-pub moves_last : (old mid new : Held) (left left' : Option (List ℕ)) (line : Line) → Moves old mid left left' [] → LacksFeed mid.pending → IsLastAnswered mid.pending line → new ≡ record mid { pending = [] } → (raw : List ℕ) × Spells raw true line × Moves old new left left' raw
+pub moves_last : (old mid new : Backlog) (left left' : Option (List ℕ)) (line : Line) → Moves old mid left left' [] → LacksFeed mid.pending → IsLastAnswered mid.pending line → new ≡ record mid { pending = [] } → (raw : List ℕ) × Spells raw true line × Moves old new left left' raw
 moves_last old mid new left left' line moved lacks answered e =
-    let motive : Held → Type 0 = λ h. (raw : List ℕ) × Spells raw true line × Moves old h left left' raw in
+    let motive : Backlog → Type 0 = λ h. (raw : List ℕ) × Spells raw true line × Moves old h left left' raw in
     subst motive (sym e) (
       mid.pending,
       spells_last mid.pending line lacks answered,
@@ -91,7 +91,7 @@ first_of_left before raw after ended End e spelled last =
     (e ∙ ap (λ bs. bs ++ after) spelled.0 ∙ none, none)
 
 -- where the source tells its bytes, the answer is the first line of those that are left
-pub first_left : (old new : Held) (left left' : Option (List ℕ)) (raw : List ℕ) (ended : Bool) (line : Line) → Spells raw ended line → Moves old new left left' raw → (ended ≡ true → new.pending ≡ []) → (ended ≡ true → IsAtEnd left') → IsFirstLeft old.pending left new.pending left' line
+pub first_left : (old new : Backlog) (left left' : Option (List ℕ)) (raw : List ℕ) (ended : Bool) (line : Line) → Spells raw ended line → Moves old new left left' raw → (ended ≡ true → new.pending ≡ []) → (ended ≡ true → IsAtEnd left') → IsFirstLeft old.pending left new.pending left' line
 first_left old new None left' raw ended line spelled moved empty end = tt
 first_left old new (Some left) None raw ended line spelled moved empty end = absurd moved.told
 first_left old new (Some left) (Some left') raw ended line spelled moved empty end =
@@ -104,12 +104,12 @@ spells_some : (raw : List ℕ) (ended : Bool) (text : List ℕ) → SpellsLine r
 spells_some [] ended text spelled = absurd (let e : [] ≡ text ∷ [] = spelled.0 in cc)
 spells_some (b ∷ bs) ended text spelled = omega arith
 
-advances_by : (old new : Reading) (left left' : Option (List ℕ)) (raw : List ℕ) → Moves (held old) (held new) left left' raw → length old.pending ≤ old.taken → 0 < length raw → consumed old < consumed new
+advances_by : (old new : Reading) (left left' : Option (List ℕ)) (raw : List ℕ) → Moves (backlog_of old) (backlog_of new) left left' raw → length old.pending ≤ old.taken → 0 < length raw → given_out_count old < given_out_count new
 advances_by old new left left' raw moved fewer some =
     omega (arith, ap length moved.bytes, length-append old.pending moved.came, length-append raw new.pending, moved.count)
 
 -- every line gives out at least a byte
-pub advances : (old new : Reading) (left left' : Option (List ℕ)) (raw : List ℕ) (ended : Bool) (line : Line) → Spells raw ended line → Moves (held old) (held new) left left' raw → length old.pending ≤ old.taken → Advances line old new
+pub advances : (old new : Reading) (left left' : Option (List ℕ)) (raw : List ℕ) (ended : Bool) (line : Line) → Spells raw ended line → Moves (backlog_of old) (backlog_of new) left left' raw → length old.pending ≤ old.taken → Advances line old new
 advances old new left left' raw ended (Bytes line) spelled moved fewer =
     advances_by old new left left' raw moved fewer (spells_some raw ended line.items spelled.0)
 advances old new left left' raw ended TooLong spelled moved fewer =
@@ -117,12 +117,12 @@ advances old new left left' raw ended TooLong spelled moved fewer =
 advances old new left left' raw ended End spelled moved fewer = tt
 
 -- the same two for an answer that may be a fault
-pub first_answer : (r : Result Line LineFault) (old new : Held) (left left' : Option (List ℕ)) (ended : Bool) → IfOk r (λ line. (raw : List ℕ) × Spells raw ended line × Moves old new left left' raw) → (ended ≡ true → new.pending ≡ []) → (ended ≡ true → IsAtEnd left') → IfOk r (IsFirstLeft old.pending left new.pending left')
+pub first_answer : (r : Result Line LineFault) (old new : Backlog) (left left' : Option (List ℕ)) (ended : Bool) → IfOk r (λ line. (raw : List ℕ) × Spells raw ended line × Moves old new left left' raw) → (ended ≡ true → new.pending ≡ []) → (ended ≡ true → IsAtEnd left') → IfOk r (IsFirstLeft old.pending left new.pending left')
 first_answer (Ok line) old new left left' ended moved empty end =
     first_left old new left left' moved.0 ended line moved.1 moved.2 empty end
 first_answer (Err fault) old new left left' ended moved empty end = tt
 
-pub advances_answer : (r : Result Line LineFault) (old new : Reading) (left left' : Option (List ℕ)) (ended : Bool) → IfOk r (λ line. (raw : List ℕ) × Spells raw ended line × Moves (held old) (held new) left left' raw) → length old.pending ≤ old.taken → IfOk r (λ line. Advances line old new)
+pub advances_answer : (r : Result Line LineFault) (old new : Reading) (left left' : Option (List ℕ)) (ended : Bool) → IfOk r (λ line. (raw : List ℕ) × Spells raw ended line × Moves (backlog_of old) (backlog_of new) left left' raw) → length old.pending ≤ old.taken → IfOk r (λ line. Advances line old new)
 advances_answer (Ok line) old new left left' ended moved fewer =
     advances old new left left' moved.0 ended line moved.1 moved.2 fewer
 advances_answer (Err fault) old new left left' ended moved fewer = tt

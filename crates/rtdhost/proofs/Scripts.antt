@@ -10,7 +10,7 @@ use Rattle.std.proofs.lemmas.Str.{utf8_valid_len-IsUtf8}
 use Rattle.formula_parse.specs.declared.nodes.Node.{Node}
 use Rattle.formula_parse.specs.declared.faults.ParseFault.{ParseFault}
 use Rattle.formula_parse.specs.declared.faults.ParseFault.TheVariants as faults
-use Rattle.formula_parse.specs.Reading.{formula_of, parsed}
+use Rattle.formula_parse.specs.Reading.{formula_of, parse_result}
 use Rattle.rtdhost.specs.declared.script.Parsed.{Parsed}
 use Rattle.rtdhost.specs.declared.script.Parsed.TheVariants.{Empty}
 use Rattle.rtdhost.specs.declared.script.BadLine.{BadLine}
@@ -41,12 +41,12 @@ either_way true o h = h
 either_way false o h = refl
 
 -- a text of which nothing is parsed is no formula
-none_said : (text : List ℕ) (fault : ParseFault) → Err fault ≡ parsed text → formula_of text ≡ None
+none_said : (text : List ℕ) (fault : ParseFault) → Err fault ≡ parse_result text → formula_of text ≡ None
 unfolding formula_of
-none_said text fault is = either_way _ (result_ok (parsed text)) (sym (ap result_ok is))
+none_said text fault is = either_way _ (result_ok (parse_result text)) (sym (ap result_ok is))
 
 -- a text that parses to a fault is no formula
-pub no_formula : (text : List ℕ) (r : Result Node ParseFault) (fault : ParseFault) → r ≡ Err fault → fault ≢ faults.Memory → (r ≡ Err faults.Memory) ⊎ (r ≡ parsed text) → formula_of text ≡ None
+pub no_formula : (text : List ℕ) (r : Result Node ParseFault) (fault : ParseFault) → r ≡ Err fault → fault ≢ faults.Memory → (r ≡ Err faults.Memory) ⊎ (r ≡ parse_result text) → formula_of text ≡ None
 no_formula text r fault is known (inl memory) = absurd (known (shed (sym is ∙ memory)))
   where
     shed : ◌≡◌ {A = Result Node ParseFault} (Err fault) (Err faults.Memory) → fault ≡ faults.Memory

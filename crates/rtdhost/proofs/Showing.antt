@@ -12,7 +12,7 @@ use Rattle.cell_values.specs.declared.values.Value.TheVariants.{Num as Number', 
 use Rattle.workbook.specs.declared.contents.Content.{Content}
 use Rattle.workbook.specs.declared.contents.Content.TheVariants as contents
 use Rattle.workbook.specs.Book.{IsInOrder, content_at, has_formula, is_formula}
-use Rattle.workbook.specs.Meaning.{Val, meaning, shown}
+use Rattle.workbook.specs.Meaning.{Val, meaning, shown_value}
 use Rattle.workbook.specs.Stale.{is_among}
 use Rattle.workbook.specs.State.{alone}
 use Rattle.workbook.proofs.Cells.{same_cell_is, same_cells}
@@ -22,11 +22,11 @@ use Rattle.rtdhost.specs.Publishing.{ShowsMeaning, KeepsMeanings, ShowsStale, Sh
 
 -- a cell is shown its meaning
 pub shows-at : (book : List (Cell × Content)) (old new : List (Cell × Option Value)) (cell : Cell) (value : Option Value) → ShowsAt old new cell value
-    → Some value ≡ option_map (λ _. shown (meaning alone book cell)) (content_at book cell) → ShowsMeaning book new cell
+    → Some value ≡ option_map (λ _. shown_value (meaning alone book cell)) (content_at book cell) → ShowsMeaning book new cell
 shows-at book old new cell value at right = at cell ∙ ap (λ b. cond b (Some value) (lookup (same_cell cell) old)) (same_cells.refl cell) ∙ right
 
 pub keeps-at : (book : List (Cell × Content)) (old new : List (Cell × Option Value)) (cell : Cell) (value : Option Value) → ShowsAt old new cell value
-    → Some value ≡ option_map (λ _. shown (meaning alone book cell)) (content_at book cell) → KeepsMeanings book old new
+    → Some value ≡ option_map (λ _. shown_value (meaning alone book cell)) (content_at book cell) → KeepsMeanings book old new
 keeps-at book old new cell value at right q h = elim (same_cell cell q) as (λ b. same_cell cell q ≡ b → ShowsMeaning book new q) [
   | true ↦ λ e. subst (λ c. ShowsMeaning book new c) (same_cell_is cell q e) (shows-at book old new cell value at right)
   | false ↦ λ e. at q ∙ ap (λ b. cond b (Some value) (lookup (same_cell q) old)) e ∙ h
@@ -38,7 +38,7 @@ TakesOff old new cell = (q : Cell) → lookup (same_cell q) new ≡ cond (same_c
 
 pub shows-off : (book : List (Cell × Content)) (old new : List (Cell × Option Value)) (cell : Cell) → TakesOff old new cell → content_at book cell ≡ None → ShowsMeaning book new cell
 shows-off book old new cell off none =
-    off cell ∙ ap (λ b. cond b None (lookup (same_cell cell) old)) (same_cells.refl cell) ∙ sym (ap (option_map (λ _. shown (meaning alone book cell))) none)
+    off cell ∙ ap (λ b. cond b None (lookup (same_cell cell) old)) (same_cells.refl cell) ∙ sym (ap (option_map (λ _. shown_value (meaning alone book cell))) none)
 
 pub keeps-off : (book : List (Cell × Content)) (old new : List (Cell × Option Value)) (cell : Cell) → TakesOff old new cell → content_at book cell ≡ None → KeepsMeanings book old new
 keeps-off book old new cell off none q h = elim (same_cell cell q) as (λ b. same_cell cell q ≡ b → ShowsMeaning book new q) [
@@ -48,19 +48,19 @@ keeps-off book old new cell off none q h = elim (same_cell cell q) as (λ b. sam
 
 -- what a constant shows
 pub constant-right : (book : List (Cell × Content)) → IsInOrder book → (cell : Cell) (x : Content) (v : Value) → content_at book cell ≡ Some x → known_content (Some x) None ≡ Some v
-    → Some (Some v) ≡ option_map (λ _. shown (meaning alone book cell)) (content_at book cell)
+    → Some (Some v) ≡ option_map (λ _. shown_value (meaning alone book cell)) (content_at book cell)
 constant-right book ordered cell (contents.Num n) v found is =
     let same : Number' n ≡ v = cc in
-    sym (ap (option_map (λ _. shown (meaning alone book cell))) found ∙ ap (λ m. Some (shown m)) (constant_means book ordered cell (Some (contents.Num n)) found refl ∙ ap Val same))
+    sym (ap (option_map (λ _. shown_value (meaning alone book cell))) found ∙ ap (λ m. Some (shown_value m)) (constant_means book ordered cell (Some (contents.Num n)) found refl ∙ ap Val same))
 constant-right book ordered cell (contents.Text t) v found is =
     let same : Text' t ≡ v = cc in
-    sym (ap (option_map (λ _. shown (meaning alone book cell))) found ∙ ap (λ m. Some (shown m)) (constant_means book ordered cell (Some (contents.Text t)) found refl ∙ ap Val same))
+    sym (ap (option_map (λ _. shown_value (meaning alone book cell))) found ∙ ap (λ m. Some (shown_value m)) (constant_means book ordered cell (Some (contents.Text t)) found refl ∙ ap Val same))
 constant-right book ordered cell (contents.Bool b) v found is =
     let same : Bool' b ≡ v = cc in
-    sym (ap (option_map (λ _. shown (meaning alone book cell))) found ∙ ap (λ m. Some (shown m)) (constant_means book ordered cell (Some (contents.Bool b)) found refl ∙ ap Val same))
+    sym (ap (option_map (λ _. shown_value (meaning alone book cell))) found ∙ ap (λ m. Some (shown_value m)) (constant_means book ordered cell (Some (contents.Bool b)) found refl ∙ ap Val same))
 constant-right book ordered cell (contents.Error e) v found is =
     let same : Error' e ≡ v = cc in
-    sym (ap (option_map (λ _. shown (meaning alone book cell))) found ∙ ap (λ m. Some (shown m)) (constant_means book ordered cell (Some (contents.Error e)) found refl ∙ ap Val same))
+    sym (ap (option_map (λ _. shown_value (meaning alone book cell))) found ∙ ap (λ m. Some (shown_value m)) (constant_means book ordered cell (Some (contents.Error e)) found refl ∙ ap Val same))
 constant-right book ordered cell (contents.Formula tree) v found is = cc
 
 -- a content that is no constant is a formula
@@ -85,10 +85,10 @@ constants-next book changed rest after old new cell is keeps shows so_far q amon
 
 -- what a stale cell shows
 pub stale-right : (book : List (Cell × Content)) (stale : List Cell) (finished : List (Cell × Value)) → IsEvaluated book stale finished → (cell : Cell) → is_among stale cell ≡ true → is_formula book cell ≡ true
-    → Some (lookup (same_cell cell) finished) ≡ option_map (λ _. shown (meaning alone book cell)) (content_at book cell)
+    → Some (lookup (same_cell cell) finished) ≡ option_map (λ _. shown_value (meaning alone book cell)) (content_at book cell)
 stale-right book stale finished evaluated cell e formula = ap Some (evaluated cell e) ∙ with_content (content_at book cell) formula
   where
-    with_content : (o : Option Content) → has_formula o ≡ true → Some (shown (meaning alone book cell)) ≡ option_map (λ _. shown (meaning alone book cell)) o
+    with_content : (o : Option Content) → has_formula o ≡ true → Some (shown_value (meaning alone book cell)) ≡ option_map (λ _. shown_value (meaning alone book cell)) o
     with_content None h = cc
     with_content (Some x) h = refl
 

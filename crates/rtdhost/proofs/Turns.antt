@@ -14,7 +14,7 @@ use Rattle.rtdhost.specs.declared.session.Halt.TheVariants as halts
 use Rattle.rtdhost.specs.Engine.{Stands}
 use Rattle.rtdhost.specs.Lines.{lines_of, whole_lines}
 use Rattle.rtdhost.specs.Output.{said_reply, said_after, replies_from, state_from}
-use Rattle.rtdhost.specs.Reading.{Held, Reading, held, Moves, Leaves, Spells, IsFirstLeft, HasGiven, IsTextOf}
+use Rattle.rtdhost.specs.Reading.{Backlog, Reading, backlog_of, Moves, Leaves, Spells, IsFirstLeft, HasGiven, IsTextOf}
 use Rattle.rtdhost.specs.Script.{line_said}
 use Rattle.rtdhost.specs.Session.{HasAnswered, HasFinished, HasAnsweredWhole, HasStopped, IsWriteCaused, has_text, halt_of}
 use Rattle.rtdhost.specs.Sink.{Appends, AppendsPrefix}
@@ -35,7 +35,7 @@ pub not_ended : (ended : Bool) (r : Result Line LineFault) → (ended ≡ true �
 not_ended ended r done going = is_false ended (λ e. false≢true (sym (ap goes_on (done e)) ∙ going))
 
 -- what came and went, where the source tells its bytes
-moved_told : (old new : Held) (left' : Option (List ℕ)) (rest raw : List ℕ) → Moves old new (Some rest) left' raw → (rest' : List ℕ) × (left' ≡ Some rest') × Moves old new (Some rest) (Some rest') raw
+moved_told : (old new : Backlog) (left' : Option (List ℕ)) (rest raw : List ℕ) → Moves old new (Some rest) left' raw → (rest' : List ℕ) × (left' ≡ Some rest') × Moves old new (Some rest) (Some rest') raw
 moved_told old new None rest raw moved = absurd moved.told
 moved_told old new (Some rest') rest raw moved = (rest', refl, moved)
 
@@ -46,9 +46,9 @@ pub at_end_if : (left : Option (List ℕ)) (rest : List ℕ) → left ≡ Some r
 at_end_if left rest told end = subst IsAtEnd (sym told) end
 
 -- the line is the next one
-pub next_given : (all : List ℕ) (before : Option (List ℕ)) (engine : Engine) (old new : Reading) (left left' written : Option (List ℕ)) (line : Line) (raw : List ℕ) → HasAnswered all before engine old left written → old.ended ≡ false → has_text line ≡ true → Spells raw new.ended line → Moves (held old) (held new) left left' raw → (new.ended ≡ true → IsAtEnd left') → HasNext all before engine new line left' written
+pub next_given : (all : List ℕ) (before : Option (List ℕ)) (engine : Engine) (old new : Reading) (left left' written : Option (List ℕ)) (line : Line) (raw : List ℕ) → HasAnswered all before engine old left written → old.ended ≡ false → has_text line ≡ true → Spells raw new.ended line → Moves (backlog_of old) (backlog_of new) left left' raw → (new.ended ≡ true → IsAtEnd left') → HasNext all before engine new line left' written
 next_given all before engine old new left left' written line raw had going text spelled moved end =
-    let m = moved_told (held old) (held new) left' had.rest raw (subst (λ l. Moves (held old) (held new) l left' raw) had.told moved) in
+    let m = moved_told (backlog_of old) (backlog_of new) left' had.rest raw (subst (λ l. Moves (backlog_of old) (backlog_of new) l left' raw) had.told moved) in
     let g = HasGiven-line all had.lines old new had.rest m.0 raw line had.given going (λ e. false≢true (sym (ap has_text e) ∙ text)) spelled m.2 in
     record {
       lines = had.lines;
@@ -103,7 +103,7 @@ drop_at : (front rest : List ℕ) (n : ℕ) → n ≡ length front → drop n (f
 drop_at front rest n h = ap (λ j. drop j (front ++ rest)) h ∙ drop-append_seam front rest
 
 -- the bytes that are left behind those that were taken
-left_behind : (all : List ℕ) (lines : List (List ℕ)) (old new : Reading) (rest rest' : List ℕ) → HasGiven all lines old rest → Moves (held old) (held new) (Some rest) (Some rest') [] → drop new.taken all ≡ rest'
+left_behind : (all : List ℕ) (lines : List (List ℕ)) (old new : Reading) (rest rest' : List ℕ) → HasGiven all lines old rest → Moves (backlog_of old) (backlog_of new) (Some rest) (Some rest') [] → drop new.taken all ≡ rest'
 left_behind all lines old new rest rest' had moved =
     let front = had.given ++ new.pending in
     let regrouped : all ≡ front ++ rest' =
@@ -121,12 +121,12 @@ whole_written : (all : List ℕ) (before : Option (List ℕ)) (engine : Engine) 
 whole_written all before engine old left written had n is =
     subst (λ ls. Appends before (replies_from first_state ls) written) (sym is) had.wrote
 
-read_stopped : (all : List ℕ) (before : Option (List ℕ)) (engine : Engine) (old new : Reading) (left left' written : Option (List ℕ)) (had : HasAnswered all before engine old left written) → whole_lines (take new.taken all) ≡ had.lines → Moves (held old) (held new) (Some had.rest) left' [] → HasAnsweredWhole halts.Read all before left' written
+read_stopped : (all : List ℕ) (before : Option (List ℕ)) (engine : Engine) (old new : Reading) (left left' written : Option (List ℕ)) (had : HasAnswered all before engine old left written) → whole_lines (take new.taken all) ≡ had.lines → Moves (backlog_of old) (backlog_of new) (Some had.rest) left' [] → HasAnsweredWhole halts.Read all before left' written
 read_stopped all before engine old new left left' written had is moves =
-    let m = moved_told (held old) (held new) left' had.rest [] moves in
+    let m = moved_told (backlog_of old) (backlog_of new) left' had.rest [] moves in
     (new.taken, m.1 ∙ ap Some (sym (left_behind all had.lines old new had.rest m.0 had.given m.2)), whole_written all before engine old left written had new.taken is)
 
-reader_whole : (all : List ℕ) (before : Option (List ℕ)) (engine : Engine) (old new : Reading) (left left' written : Option (List ℕ)) (fault : LineFault) (had : HasAnswered all before engine old left written) → old.ended ≡ false → Leaves fault (held old) (held new) (Some had.rest) left' → (fault ≡ faults.Limit → 67108864 < old.taken + length had.rest) → HasAnsweredWhole (halt_of fault) all before left' written
+reader_whole : (all : List ℕ) (before : Option (List ℕ)) (engine : Engine) (old new : Reading) (left left' written : Option (List ℕ)) (fault : LineFault) (had : HasAnswered all before engine old left written) → old.ended ≡ false → Leaves fault (backlog_of old) (backlog_of new) (Some had.rest) left' → (fault ≡ faults.Limit → 67108864 < old.taken + length had.rest) → HasAnsweredWhole (halt_of fault) all before left' written
 reader_whole all before engine old new left left' written faults.Read had going leaves over =
     let is = lines_at_fault all had.lines old new had.rest left' faults.Read had.given going (λ e. false≢true (ap is_memory e)) leaves in
     read_stopped all before engine old new left left' written had is leaves.0
@@ -137,12 +137,12 @@ reader_whole all before engine old new left left' written faults.Limit had going
 reader_whole all before engine old new left left' written faults.Memory had going leaves over = tt
 
 -- a reader that gives no more lines stops the session
-pub reader_stopped : (all : List ℕ) (before : Option (List ℕ)) (engine : Engine) (old new : Reading) (left left' written : Option (List ℕ)) (fault : LineFault) (halt : Halt) → HasAnswered all before engine old left written → old.ended ≡ false → halt ≡ halt_of fault → Leaves fault (held old) (held new) left left' → (fault ≡ faults.Limit → IfSome left (λ rest. 67108864 < old.taken + length rest)) → HasStopped halt all before left' written
+pub reader_stopped : (all : List ℕ) (before : Option (List ℕ)) (engine : Engine) (old new : Reading) (left left' written : Option (List ℕ)) (fault : LineFault) (halt : Halt) → HasAnswered all before engine old left written → old.ended ≡ false → halt ≡ halt_of fault → Leaves fault (backlog_of old) (backlog_of new) left left' → (fault ≡ faults.Limit → IfSome left (λ rest. 67108864 < old.taken + length rest)) → HasStopped halt all before left' written
 reader_stopped all before engine old new left left' written fault halt had going is leaves over = (
   front_written all before engine old left written had going,
   subst (λ h. HasAnsweredWhole h all before left' written) (sym is)
       (reader_whole all before engine old new left left' written fault had going
-      (subst (λ l. Leaves fault (held old) (held new) l left') had.told leaves)
+      (subst (λ l. Leaves fault (backlog_of old) (backlog_of new) l left') had.told leaves)
       (λ e. subst (λ l. IfSome l (λ rest. 67108864 < old.taken + length rest)) had.told (over e))),
 )
 
@@ -162,9 +162,9 @@ ends_first pending pending' rest rest' End none first =
     (no_front pending rest first.0, no_back pending rest first.0, no_back pending' rest' first.1)
 
 -- the reader comes to its end
-pub reader_finished : (all : List ℕ) (before : Option (List ℕ)) (engine : Engine) (old new : Reading) (left left' written written' : Option (List ℕ)) (line : Line) (raw : List ℕ) → HasAnswered all before engine old left written → has_text line ≡ false → IsFirstLeft old.pending left new.pending left' line → Moves (held old) (held new) left left' raw → new.taken ≤ 67108864 → Keeps written written' → HasFinished all before left' written'
+pub reader_finished : (all : List ℕ) (before : Option (List ℕ)) (engine : Engine) (old new : Reading) (left left' written written' : Option (List ℕ)) (line : Line) (raw : List ℕ) → HasAnswered all before engine old left written → has_text line ≡ false → IsFirstLeft old.pending left new.pending left' line → Moves (backlog_of old) (backlog_of new) left left' raw → new.taken ≤ 67108864 → Keeps written written' → HasFinished all before left' written'
 reader_finished all before engine old new left left' written written' line raw had none first moved within kept =
-    let m = moved_told (held old) (held new) left' had.rest raw (subst (λ l. Moves (held old) (held new) l left' raw) had.told moved) in
+    let m = moved_told (backlog_of old) (backlog_of new) left' had.rest raw (subst (λ l. Moves (backlog_of old) (backlog_of new) l left' raw) had.told moved) in
     let e = ends_first old.pending new.pending had.rest m.0 line none
     (subst (λ l. IsFirstLeft old.pending (Some had.rest) new.pending l line) m.1 (subst (λ l. IsFirstLeft old.pending l new.pending left' line) had.told first)) in
     let fits : length all ≤ 67108864 = omega (arith, within, m.2.count, length_all all had.lines old had.rest had.given, ap length e.1) in

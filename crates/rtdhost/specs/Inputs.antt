@@ -15,9 +15,9 @@ use Rattle.formula_parse.specs.Tree.{precedents}
 use Rattle.workbook.specs.declared.contents.Content.{Content}
 use Rattle.workbook.specs.declared.contents.Content.TheVariants as contents
 use Rattle.workbook.specs.Book.{cells_from, content_at, is_formula}
-use Rattle.workbook.specs.Evaluation.{Answer, Val, Asks, Needs, evaluated}
+use Rattle.workbook.specs.Evaluation.{Answer, Val, Asks, Needs, answer_of}
 use Rattle.workbook.specs.Meaning as meanings
-use Rattle.workbook.specs.Meaning.{meaning, shown, world_at}
+use Rattle.workbook.specs.Meaning.{meaning, shown_value, world_at}
 use Rattle.workbook.specs.Stale.{is_among}
 use Rattle.workbook.specs.State.{alone}
 use Rattle.rtdhost.specs.declared.gathering.Step.{Step}
@@ -74,7 +74,7 @@ answer_value (Needs topic) = None
 abbrev pub value_if_known : (Cell → Option Value) → Cell → Node → Option Value
 value_if_known known cell tree =
     if list_all (λ d. is_some (known d)) (precedents tree cell.sheet)
-    then answer_value (evaluated (world_at alone cell (λ d. unwrap_or (known d) Blank)) tree)
+    then answer_value (answer_of (world_at alone cell (λ d. unwrap_or (known d) Blank)) tree)
     else None
 
 -- the same of a content
@@ -92,7 +92,7 @@ ready_value book stale sheet finished cell = content_if_known (known_input book 
 
 -- the sheet shows the meaning of each formula cell that isn't stale
 abbrev pub ShowsOthers : List (Cell × Content) → List Cell → List (Cell × Option Value) → Type 0
-ShowsOthers book stale sheet = (d : Cell) → is_formula book d ≡ true → is_among stale d ≡ false → lookup (same_cell d) sheet ≡ Some (shown (meaning alone book d))
+ShowsOthers book stale sheet = (d : Cell) → is_formula book d ≡ true → is_among stale d ≡ false → lookup (same_cell d) sheet ≡ Some (shown_value (meaning alone book d))
 
 -- each finished cell is a stale one, and has its value
 abbrev pub AreMeant : List (Cell × Content) → List Cell → List (Cell × Value) → Type 0
@@ -113,4 +113,4 @@ IsFinishedOrNew book stale sheet old cell other v =
 
 -- of the stale cells exactly those that have a value are finished, each with its value
 abbrev pub IsEvaluated : List (Cell × Content) → List Cell → List (Cell × Value) → Type 0
-IsEvaluated book stale finished = (c : Cell) → is_among stale c ≡ true → lookup (same_cell c) finished ≡ shown (meaning alone book c)
+IsEvaluated book stale finished = (c : Cell) → is_among stale c ≡ true → lookup (same_cell c) finished ≡ shown_value (meaning alone book c)

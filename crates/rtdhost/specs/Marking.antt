@@ -4,7 +4,7 @@ use Rattle.std.specs.List.{list_any}
 use Rattle.cell_refs.specs.declared.grid.Cell.{Cell}
 use Rattle.cell_refs.specs.Cell.{same_cell}
 use Rattle.workbook.specs.declared.contents.Content.{Content}
-use Rattle.workbook.specs.Book.{named_cells, is_formula}
+use Rattle.workbook.specs.Book.{cell_precedents, is_formula}
 use Rattle.workbook.specs.Stale.{is_among, is_stale}
 
 -- whether a cell is changed or marked
@@ -13,7 +13,7 @@ is_hot changed marks cell = is_among changed cell || is_among marks cell
 
 -- whether a cell is changed, or names a cell that is changed or marked
 abbrev pub is_touched : List (Cell × Content) → List Cell → List Cell → Cell → Bool
-is_touched book changed marks cell = is_among changed cell || list_any (is_hot changed marks) (named_cells book cell)
+is_touched book changed marks cell = is_among changed cell || list_any (is_hot changed marks) (cell_precedents book cell)
 
 -- only stale cells are marked
 abbrev pub AreStale : List (Cell × Content) → List Cell → List Cell → Type 0

@@ -7,13 +7,13 @@ use Rattle.cell_refs.specs.Cell.{same_cell}
 use Rattle.cell_values.specs.declared.values.Value.{Value}
 use Rattle.workbook.specs.declared.contents.Content.{Content}
 use Rattle.workbook.specs.Book.{content_at, is_formula}
-use Rattle.workbook.specs.Meaning.{meaning, shown}
+use Rattle.workbook.specs.Meaning.{meaning, shown_value}
 use Rattle.workbook.specs.Stale.{is_among}
 use Rattle.workbook.specs.State.{alone}
 
 -- what a sheet shows of a cell is what the cell means in the book; nothing where it has no content
 abbrev pub ShowsMeaning : List (Cell × Content) → List (Cell × Option Value) → Cell → Type 0
-ShowsMeaning book sheet cell = lookup (same_cell cell) sheet ≡ option_map (λ _. shown (meaning alone book cell)) (content_at book cell)
+ShowsMeaning book sheet cell = lookup (same_cell cell) sheet ≡ option_map (λ _. shown_value (meaning alone book cell)) (content_at book cell)
 
 -- what shows its meaning goes on to show it
 abbrev pub KeepsMeanings : List (Cell × Content) → List (Cell × Option Value) → List (Cell × Option Value) → Type 0

@@ -8,7 +8,7 @@ use Rattle.rtdhost.specs.declared.lines.LineFault.{LineFault}
 use Rattle.rtdhost.specs.declared.lines.LineFault.TheVariants.{Read, Limit, Memory}
 
 -- the bytes that were taken from a source and not yet given out, and how many were taken in all
-pub record Held : Type 0 where
+pub record Backlog : Type 0 where
   pub pending : List ℕ
   pub taken : ℕ
 
@@ -19,15 +19,15 @@ pub record Reading : Type 0 where
   pub ended : Bool
   pub fault : Option LineFault
 
-abbrev pub held : Reading → Held
-held r = record { pending = r.pending; taken = r.taken }
+abbrev pub backlog_of : Reading → Backlog
+backlog_of r = record { pending = r.pending; taken = r.taken }
 
 -- how many bytes were given out
-abbrev pub consumed : Reading → ℕ
-consumed r = r.taken - length r.pending
+abbrev pub given_out_count : Reading → ℕ
+given_out_count r = r.taken - length r.pending
 
 -- `came` came from the source, and `raw` went out in front
-pub record Moves (old new : Held) (left left' : Option (List ℕ)) (raw : List ℕ) : Type 0 where
+pub record Moves (old new : Backlog) (left left' : Option (List ℕ)) (raw : List ℕ) : Type 0 where
   pub came : List ℕ
   pub bytes : old.pending ++ came ≡ raw ++ new.pending
   pub count : new.taken ≡ old.taken + length came
@@ -69,11 +69,11 @@ IsFirstLeft pending None pending' left' line = Unit {0}
 -- every line that is answered gives out at least a byte
 abbrev pub Advances : Line → Reading → Reading → Type 0
 Advances End old new = Unit {0}
-Advances (Bytes line) old new = consumed old < consumed new
-Advances TooLong old new = consumed old < consumed new
+Advances (Bytes line) old new = given_out_count old < given_out_count new
+Advances TooLong old new = given_out_count old < given_out_count new
 
 -- all that may be taken was taken, and one byte more came
-pub record Overflows (old new : Held) (left left' : Option (List ℕ)) : Type 0 where
+pub record Overflows (old new : Backlog) (left left' : Option (List ℕ)) : Type 0 where
   pub came : List ℕ
   pub more : ℕ
   pub bytes : new.pending ≡ old.pending ++ came
@@ -83,7 +83,7 @@ pub record Overflows (old new : Held) (left left' : Option (List ℕ)) : Type 0 
 
 -- What a fault leaves: nothing went out, no byte is lost but the one beyond the limit, and where the source
 -- gives no more, all whole lines were given out before.
-abbrev pub Leaves : LineFault → Held → Held → Option (List ℕ) → Option (List ℕ) → Type 0
+abbrev pub Leaves : LineFault → Backlog → Backlog → Option (List ℕ) → Option (List ℕ) → Type 0
 Leaves Read old new left left' = Moves old new left left' [] × LacksFeed new.pending
 Leaves Limit old new left left' = Overflows old new left left' × LacksFeed new.pending
 Leaves Memory old new left left' = Moves old new left left' []

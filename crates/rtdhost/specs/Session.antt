@@ -11,7 +11,7 @@ use Rattle.rtdhost.specs.declared.session.Halt.TheVariants as halts
 use Rattle.rtdhost.specs.Engine.{Stands}
 use Rattle.rtdhost.specs.Lines.{lines_of, whole_lines}
 use Rattle.rtdhost.specs.Output.{replies_from, state_from}
-use Rattle.rtdhost.specs.Reading.{Reading, consumed, HasGiven}
+use Rattle.rtdhost.specs.Reading.{Reading, given_out_count, HasGiven}
 use Rattle.rtdhost.specs.Sink.{Appends, AppendsPrefix, Rose}
 
 -- the most bytes of an input
@@ -20,7 +20,7 @@ MOST_BYTES = 67108864
 
 -- a line begins at most two recalculations, so that their number stays small
 abbrev pub IsBounded : Engine → Reading → Type 0
-IsBounded engine reading = engine.round ≤ 2 * consumed reading
+IsBounded engine reading = engine.round ≤ 2 * given_out_count reading
 
 -- Of a source that told these bytes some lines were given out, the engine stands for the state after them, and
 -- their answers are written.

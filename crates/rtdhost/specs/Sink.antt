@@ -2,12 +2,12 @@
 use Rattle.std.specs.Prelude.{◌≡◌, ℕ, ◌+◌, ◌-◌, ◌^◌, ◌≤◌, min, Bool, List, ◌++◌, Option, Some, None}
 
 -- one more, up to the greatest u64
-abbrev pub counted : ℕ → ℕ
-counted n = min (n + 1) (2 ^ 64 - 1)
+abbrev pub count_with_one_more : ℕ → ℕ
+count_with_one_more n = min (n + 1) (2 ^ 64 - 1)
 
 -- a count rose: it is greater than before, or stands at the greatest u64
 abbrev pub Rose : ℕ → ℕ → Type 0
-Rose before now = counted before ≤ now
+Rose before now = count_with_one_more before ≤ now
 
 -- the bytes written grew by these, where they are told
 abbrev pub Appends : Option (List ℕ) → List ℕ → Option (List ℕ) → Type 0

@@ -23,7 +23,8 @@ pub fn answer(
 ) -> Result<(), Memory>
     requires { engine.old.round + 2 < 2 ^ 64 }
     ensures step { (s : State) → Stands engine.old s → OnOk result
-        ((out.new.items ≡ out.old.items ++ said_reply s (line_said line.now)) × Stands engine.new (said_after s (line_said line.now))) }
+        ((out.new.items ≡ out.old.items ++ said_reply s (line_said line.now))
+        × Stands engine.new (said_after s (line_said line.now))) }
     ensures err { OnErr result (out.new.items ≡ out.old.items) }
     ensures round { OnOk result (engine.new.round ≤ engine.old.round + 2) }
 {
@@ -48,7 +49,8 @@ pub fn answer_bad(out: &mut Vec<u8>) -> Result<(), Memory>
 fn act(engine: &mut Engine, command: Command, out: &mut Vec<u8>) -> Result<(), Memory>
     requires { engine.old.round + 1 < 2 ^ 64 }
     ensures step { (s : State) → Stands engine.old s → OnOk result
-        ((out.new.items ≡ out.old.items ++ reply_text (reply_to s command)) × Stands engine.new (state_after s command)) }
+        ((out.new.items ≡ out.old.items ++ reply_text (reply_to s command))
+        × Stands engine.new (state_after s command)) }
     ensures err { OnErr result (out.new.items ≡ out.old.items) }
     ensures kept { take (vec_len out.old) out.new.items ≡ out.old.items }
     ensures round { OnOk result (engine.new.round ≤ engine.old.round + 1) }
@@ -61,7 +63,8 @@ fn act(engine: &mut Engine, command: Command, out: &mut Vec<u8>) -> Result<(), M
 fn calculate(engine: &mut Engine, kind: BeginKind, out: &mut Vec<u8>) -> Result<(), Memory>
     requires { engine.old.round + 2 < 2 ^ 64 }
     ensures step { (s : State) → Stands engine.old s → OnOk result
-        ((out.new.items ≡ out.old.items ++ said_reply s (Some (Parsed.Calc kind))) × Stands engine.new (said_after s (Some (Parsed.Calc kind)))) }
+        ((out.new.items ≡ out.old.items ++ said_reply s (Some (Parsed.Calc kind)))
+        × Stands engine.new (said_after s (Some (Parsed.Calc kind)))) }
     ensures err { OnErr result (out.new.items ≡ out.old.items) }
     ensures round { OnOk result (engine.new.round ≤ engine.old.round + 2) }
 {
@@ -77,7 +80,8 @@ fn calculate(engine: &mut Engine, kind: BeginKind, out: &mut Vec<u8>) -> Result<
 fn begin_and_settle(engine: &mut Engine, kind: BeginKind, out: &mut Vec<u8>) -> Result<(), Memory>
     requires { engine.old.round + 2 < 2 ^ 64 }
     ensures step { (s : State) → Stands engine.old s → OnOk result
-        ((out.new.items ≡ out.old.items ++ said_reply s (Some (Parsed.Calc kind))) × Stands engine.new (said_after s (Some (Parsed.Calc kind)))) }
+        ((out.new.items ≡ out.old.items ++ said_reply s (Some (Parsed.Calc kind)))
+        × Stands engine.new (said_after s (Some (Parsed.Calc kind)))) }
     ensures kept { take (vec_len out.old) out.new.items ≡ out.old.items }
     ensures round { OnOk result (engine.new.round ≤ engine.old.round + 2) }
 {

@@ -36,8 +36,10 @@ pub fn read_constant(alloc: Global, word: &str) -> Result<Content, BadLine>
 
 /// The text of these bytes.
 pub fn read_text(alloc: Global, bytes: &[u8]) -> Result<Content, BadLine>
-    ensures said { IfOk result (λ content. option_map Content.Text (text_of_bytes bytes.now) ≡ Some content) }
-    ensures later { result ≡ Err BadLine.Later → option_map Content.Text (text_of_bytes bytes.now) ≡ None }
+    ensures said { IfOk result (λ content. option_map Content.Text (text_of_bytes bytes.now)
+        ≡ Some content) }
+    ensures later { result ≡ Err BadLine.Later
+        → option_map Content.Text (text_of_bytes bytes.now) ≡ None }
 {
     let Ok(text) = str::from_utf8(bytes) else {
         return Err(BadLine::Later);

@@ -55,7 +55,9 @@ impl Engine {
     /// Answers a command. After want of memory the engine is not used again.
     pub fn act(&mut self, command: Command) -> Result<Reply, Memory>
         requires { self.old.round + 1 < 2 ^ 64 }
-        ensures step { (s : State) → Stands self.old s → IfOk result (λ reply. (reply ≡ reply_to s command) × Stands self.new (state_after s command)) }
+        ensures step { (s : State) → Stands self.old s
+            → IfOk result (λ reply. (reply ≡ reply_to s command)
+            × Stands self.new (state_after s command)) }
         ensures round { OnOk result (self.new.round ≤ self.old.round + 1) }
     {
         match command {
@@ -69,7 +71,8 @@ impl Engine {
     /// Gives a cell this content.
     fn set(&mut self, cell: Cell, content: Content) -> Result<Reply, Memory>
         ensures step { (s : State) → Stands self.old s
-            → IfOk result (λ reply. (reply ≡ reply_to s (Command.Set cell content)) × Stands self.new (state_after s (Command.Set cell content))) }
+            → IfOk result (λ reply. (reply ≡ reply_to s (Command.Set cell content))
+            × Stands self.new (state_after s (Command.Set cell content))) }
         ensures round { self.new.round ≡ self.old.round }
     {
         if self.running {
@@ -88,7 +91,8 @@ impl Engine {
     fn begin(&mut self, kind: BeginKind) -> Reply
         requires { self.old.round + 1 < 2 ^ 64 }
         ensures step { (s : State) → Stands self.old s
-            → (result ≡ reply_to s (Command.Begin kind)) × Stands self.new (state_after s (Command.Begin kind)) }
+            → (result ≡ reply_to s (Command.Begin kind))
+            × Stands self.new (state_after s (Command.Begin kind)) }
         ensures round { self.new.round ≤ self.old.round + 1 }
     {
         if self.running {
@@ -102,7 +106,8 @@ impl Engine {
     /// Completes the recalculation that runs.
     fn settle(&mut self) -> Result<Reply, Memory>
         ensures step { (s : State) → Stands self.old s
-            → IfOk result (λ reply. (reply ≡ reply_to s Command.Settle) × Stands self.new (state_after s Command.Settle)) }
+            → IfOk result (λ reply. (reply ≡ reply_to s Command.Settle)
+            × Stands self.new (state_after s Command.Settle)) }
         ensures round { self.new.round ≡ self.old.round }
     {
         if !self.running {

@@ -3,12 +3,12 @@
 ghost use Rattle.std.specs.Prelude.{◌≡◌, Ok, IfOk, OnOk, true, false, Some, is_some};
 ghost use Rattle.std.specs.Map.{lookup};
 ghost use Rattle.cell_eval.specs.Jobs.{input_of};
-ghost use Rattle.cell_eval.specs.Outcomes.{told};
+ghost use Rattle.cell_eval.specs.Outcomes.{outcome_answer};
 ghost use Rattle.cell_refs.specs.declared.grid.Cell.{Cell};
 ghost use Rattle.cell_refs.specs.Cell.{same_cell};
 ghost use Rattle.cell_values.specs.declared.values.Value.{Value};
 ghost use Rattle.workbook.specs.Book.{IsInOrder, formula_cells, is_formula};
-ghost use Rattle.workbook.specs.Evaluation.{evaluated};
+ghost use Rattle.workbook.specs.Evaluation.{answer_of};
 ghost use Rattle.workbook.specs.Meaning.{world_at};
 ghost use Rattle.workbook.specs.Stale.{is_among};
 ghost use Rattle.workbook.specs.State.{alone};
@@ -33,7 +33,8 @@ fn formula_value(
     tree: &Tree,
     inputs: Inputs,
 ) -> Result<Option<Value>, Memory>
-    ensures { IfOk result (λ value. value ≡ answer_value (evaluated (world_at alone cell (input_of inputs)) tree.now)) }
+    ensures { IfOk result (λ value. value ≡ answer_value
+        (answer_of (world_at alone cell (input_of inputs)) tree.now)) }
 {
     let mut job = Job {
         round,
@@ -50,7 +51,7 @@ fn formula_value(
 
 /// The value that an outcome tells, if it is one.
 fn value_told(outcome: Outcome) -> Option<Value>
-    ensures { result ≡ answer_value (told outcome) }
+    ensures { result ≡ answer_value (outcome_answer outcome) }
 {
     match outcome {
         Outcome::Done(value) => Some(value),
@@ -103,7 +104,8 @@ fn finish_if_ready(
     ensures ready { OnOk result (is_among sight.entry.stale.now.keys cell ≡ true
         → is_some (ready_value sight.entry.book.now.contents sight.entry.stale.now.keys sight.entry.sheet.now.entries finished.old.entries cell) ≡ true
         → is_some (lookup (same_cell cell) finished.new.entries) ≡ true) }
-    ensures only { (other : Cell) (v : Value) → lookup (same_cell other) finished.new.entries ≡ Some v
+    ensures only { (other : Cell) (v : Value)
+        → lookup (same_cell other) finished.new.entries ≡ Some v
         → IsFinishedOrNew sight.entry.book.now.contents sight.entry.stale.now.keys sight.entry.sheet.now.entries finished.old.entries cell other v }
     ensures idle { result ≡ Ok false → finished.new.entries ≡ finished.old.entries }
 {
@@ -129,7 +131,8 @@ fn evaluate_pass(
     ensures keeps { KeepsFinished finished.old.entries finished.new.entries }
     ensures ready { OnOk result (FinishesReady sight.entry.book.now.contents sight.entry.stale.now.keys sight.entry.sheet.now.entries finished.old.entries cells.now finished.new.entries) }
     ensures meant { OnOk result (IsInOrder sight.entry.book.now.contents → ShowsOthers sight.entry.book.now.contents sight.entry.stale.now.keys sight.entry.sheet.now.entries
-        → AreMeant sight.entry.book.now.contents sight.entry.stale.now.keys finished.old.entries → AreMeant sight.entry.book.now.contents sight.entry.stale.now.keys finished.new.entries) }
+        → AreMeant sight.entry.book.now.contents sight.entry.stale.now.keys finished.old.entries
+        → AreMeant sight.entry.book.now.contents sight.entry.stale.now.keys finished.new.entries) }
     ensures idle { result ≡ Ok false → finished.new.entries ≡ finished.old.entries }
 {
     let mut moved = false;
@@ -148,7 +151,8 @@ pub fn evaluate(
 ) -> Result<BTreeMap<Cell, Value>, Memory>
     requires ordered { IsInOrder sight.book.now.contents }
     requires formulas { formulas.now ≡ formula_cells sight.book.now.contents }
-    requires stale { (c : Cell) → is_among sight.stale.now.keys c ≡ true → is_formula sight.book.now.contents c ≡ true }
+    requires stale { (c : Cell) → is_among sight.stale.now.keys c ≡ true
+        → is_formula sight.book.now.contents c ≡ true }
     ensures { IfOk result (λ finished. ShowsOthers sight.entry.book.now.contents sight.entry.stale.now.keys sight.entry.sheet.now.entries
         → IsEvaluated sight.entry.book.now.contents sight.entry.stale.now.keys finished.entries) }
 {

@@ -1,7 +1,7 @@
 ghost use Rattle.std.specs.Prelude.{◌≡◌, ◌+◌, ◌<◌, ◌≤◌, ◌≢◌, ◌++◌, ℕ, true, false, List, [], length, drop, IfOk, IfErr, OnOk, OnErr, vec_len, vec_capacity};
 ghost use Rattle.std.specs.Io.KnownBytes.{Consumes, Keeps, IsAtEnd};
 ghost use Rattle.rtdhost.specs.Sink.{Rose};
-ghost use Rattle.rtdhost.specs.Reading.{Held, Moves, Misses};
+ghost use Rattle.rtdhost.specs.Reading.{Backlog, Moves, Misses};
 
 use super::lines::LineFault;
 use super::sources::{Failed, Source};
@@ -24,13 +24,14 @@ pub struct Buffer {
 
 impl Model for Buffer {
     ghost use Rattle.std.specs.Prelude.{◌-◌, ◌≤◌, drop, length};
-    ghost use Rattle.rtdhost.specs.Reading.{Held};
+    ghost use Rattle.rtdhost.specs.Reading.{Backlog};
 
-    ghost Value = { Held };
+    ghost Value = { Backlog };
 
     ghost view = { λ b. record { pending = drop b.start b.bytes.items; taken = b.taken } };
 
-    ghost invariant = { λ b. (b.start ≤ length b.bytes.items) × (length b.bytes.items - b.start ≤ b.taken) × (b.taken ≤ 67108864) };
+    ghost invariant = { λ b. (b.start ≤ length b.bytes.items)
+        × (length b.bytes.items - b.start ≤ b.taken) × (b.taken ≤ 67108864) };
 }
 
 impl Buffer {
@@ -73,7 +74,8 @@ impl Buffer {
 
     /// Takes the next piece from the source; false at its end.
     pub fn refill<I: Source>(&mut self, src: &mut I) -> Result<bool, LineFault>
-        ensures moved { IfOk result (λ _. Moves self.old self.new (I.remaining src.old) (I.remaining src.new) []) }
+        ensures moved { IfOk result (λ _. Moves self.old self.new (I.remaining src.old)
+            (I.remaining src.new) []) }
         ensures more { result ≡ Ok true → self.old.taken < self.new.taken }
         ensures within { self.new.taken ≤ 67108864 }
         ensures fewer { length self.new.pending ≤ self.new.taken }
@@ -81,7 +83,8 @@ impl Buffer {
         ensures end { result ≡ Ok false → IsAtEnd (I.remaining src.new) }
 
         ensures err { OnErr result (self.new ≡ self.old) }
-        ensures missed { IfErr result (λ fault. Misses fault self.old.taken (I.remaining src.old) (I.remaining src.new)) }
+        ensures missed { IfErr result (λ fault. Misses fault self.old.taken (I.remaining src.old)
+            (I.remaining src.new)) }
         ensures failed { result ≡ Err LineFault.Read → Rose (I.faults src.old) (I.faults src.new) }
         ensures count { I.faults src.old ≤ I.faults src.new }
     {
@@ -134,7 +137,8 @@ fn append_piece<I: Source>(bytes: &mut Vec<u8>, src: &mut I, most: usize) -> Res
     requires room { vec_len bytes.old + 8192 ≤ vec_capacity bytes.old }
     ensures fits { IfOk result (λ count. count ≤ most) }
     ensures came { IfOk result (λ count. (came : List ℕ) × (length came ≡ count)
-        × (bytes.new.items ≡ bytes.old.items ++ came) × Consumes (I.remaining src.old) (I.remaining src.new) came) }
+        × (bytes.new.items ≡ bytes.old.items ++ came)
+        × Consumes (I.remaining src.old) (I.remaining src.new) came) }
     ensures end { result ≡ Ok 0 → 0 < most → IsAtEnd (I.remaining src.new) }
     ensures err { OnErr result (bytes.new.items ≡ bytes.old.items) }
     ensures kept { OnErr result (Keeps (I.remaining src.old) (I.remaining src.new)) }
@@ -153,7 +157,8 @@ fn append_piece<I: Source>(bytes: &mut Vec<u8>, src: &mut I, most: usize) -> Res
 fn look_beyond<I: Source>(src: &mut I) -> Result<bool, LineFault>
     ensures end { IfOk result (λ more. (more ≡ false) × IsAtEnd (I.remaining src.new)) }
     ensures kept { OnOk result (Consumes (I.remaining src.old) (I.remaining src.new) []) }
-    ensures missed { IfErr result (λ fault. Misses fault 67108864 (I.remaining src.old) (I.remaining src.new)) }
+    ensures missed { IfErr result (λ fault. Misses fault 67108864 (I.remaining src.old)
+        (I.remaining src.new)) }
     ensures memory { result ≢ Err LineFault.Memory }
     ensures failed { result ≡ Err LineFault.Read → Rose (I.faults src.old) (I.faults src.new) }
     ensures count { I.faults src.old ≤ I.faults src.new }

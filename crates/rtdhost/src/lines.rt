@@ -2,7 +2,7 @@ ghost use Rattle.std.specs.Prelude.{◌≡◌, ◌+◌, ◌<◌, ◌≤◌, ℕ,
 ghost use Rattle.std.specs.Io.KnownBytes.{IsAtEnd};
 ghost use Rattle.rtdhost.specs.Sink.{Rose};
 ghost use Rattle.rtdhost.specs.Lines.{LacksFeed, IsFirstFeed, without_return};
-ghost use Rattle.rtdhost.specs.Reading.{held, Moves, Leaves, Spells, IsAnswered, IsLastAnswered, IsFirstLeft, Advances};
+ghost use Rattle.rtdhost.specs.Reading.{backlog_of, Moves, Leaves, Spells, IsAnswered, IsLastAnswered, IsFirstLeft, Advances};
 
 use super::line_buffer::Buffer;
 use super::sources::Source;
@@ -49,7 +49,8 @@ impl Model for Lines {
 
     ghost view = { λ l. record { pending = l.buffer.pending; taken = l.buffer.taken; ended = l.ended; fault = l.fault } };
 
-    ghost invariant = { λ l. (length l.buffer.pending ≤ l.buffer.taken) × (l.buffer.taken ≤ 67108864)
+    ghost invariant = { λ l. (length l.buffer.pending ≤ l.buffer.taken)
+        × (l.buffer.taken ≤ 67108864)
         × (l.ended ≡ true → l.buffer.pending ≡ []) };
 }
 
@@ -70,11 +71,13 @@ impl Lines {
     pub fn next<I: Source>(&mut self, src: &mut I) -> Result<Line, LineFault>
         // The bytes that came, and those that went out with the line.
         ensures moved { IfOk result (λ line. (raw : List ℕ) × Spells raw self.new.ended line
-            × Moves (held self.old) (held self.new) (I.remaining src.old) (I.remaining src.new) raw) }
+            × Moves (backlog_of self.old) (backlog_of self.new) (I.remaining src.old)
+            (I.remaining src.new) raw) }
 
         // Where the source tells its bytes, the answer is the first line of those that are left.
         ensures told { (self.old.ended ≡ true → IsAtEnd (I.remaining src.old)) → IfOk result
-            (IsFirstLeft self.old.pending (I.remaining src.old) self.new.pending (I.remaining src.new)) }
+            (IsFirstLeft self.old.pending (I.remaining src.old) self.new.pending
+            (I.remaining src.new)) }
         ensures ended { (self.old.ended ≡ true → IsAtEnd (I.remaining src.old))
             → self.new.ended ≡ true → IsAtEnd (I.remaining src.new) }
 
@@ -85,8 +88,10 @@ impl Lines {
 
         // What a new fault leaves. After a failed read or at the limit all whole lines were given out.
         ensures left { self.old.fault ≡ None → IfErr result (λ fault. Leaves fault
-            (held self.old) (held self.new) (I.remaining src.old) (I.remaining src.new)) }
-        ensures read { self.old.fault ≡ None → result ≡ Err LineFault.Read → Rose (I.faults src.old) (I.faults src.new) }
+            (backlog_of self.old) (backlog_of self.new) (I.remaining src.old)
+            (I.remaining src.new)) }
+        ensures read { self.old.fault ≡ None → result ≡ Err LineFault.Read
+            → Rose (I.faults src.old) (I.faults src.new) }
         ensures limit { self.old.fault ≡ None → result ≡ Err LineFault.Limit
             → IfSome (I.remaining src.old) (λ left. 67108864 < self.old.taken + length left) }
 
@@ -94,7 +99,8 @@ impl Lines {
         ensures done { self.old.fault ≡ None → self.old.ended ≡ true
             → (result ≡ Ok Line.End) × (self.new ≡ self.old) × (src.new ≡ src.old) }
         ensures empty { self.new.ended ≡ true → self.new.pending ≡ [] }
-        ensures fault { MatchResult result (λ _. self.new.fault ≡ None) (λ fault. self.new.fault ≡ Some fault) }
+        ensures fault { MatchResult result (λ _. self.new.fault ≡ None) (λ fault. self.new.fault
+            ≡ Some fault) }
         ensures again { IfSome self.old.fault
             (λ fault. (result ≡ Err fault) × (self.new ≡ self.old) × (src.new ≡ src.old)) }
         ensures count { I.faults src.old ≤ I.faults src.new }
@@ -126,7 +132,8 @@ fn next_line<I: Source>(
     ensures empty { ended.old ≡ false → ended.new ≡ true → buffer.new.pending ≡ [] }
     ensures within { buffer.new.taken ≤ 67108864 }
     ensures fewer { length buffer.new.pending ≤ buffer.new.taken }
-    ensures left { IfErr result (λ fault. Leaves fault buffer.old buffer.new (I.remaining src.old) (I.remaining src.new)) }
+    ensures left { IfErr result (λ fault. Leaves fault buffer.old buffer.new (I.remaining src.old)
+        (I.remaining src.new)) }
     ensures read { result ≡ Err LineFault.Read → Rose (I.faults src.old) (I.faults src.new) }
     ensures count { I.faults src.old ≤ I.faults src.new }
 {
@@ -142,12 +149,15 @@ fn next_line<I: Source>(
 
 /// Takes pieces until a line feed is pending, and answers its place; None at the end of the source.
 fn find_feed<I: Source>(buffer: &mut Buffer, src: &mut I) -> Result<Option<usize>, LineFault>
-    ensures moved { OnOk result (Moves buffer.old buffer.new (I.remaining src.old) (I.remaining src.new) []) }
+    ensures moved { OnOk result (Moves buffer.old buffer.new (I.remaining src.old)
+        (I.remaining src.new) []) }
     ensures within { buffer.new.taken ≤ 67108864 }
     ensures fewer { length buffer.new.pending ≤ buffer.new.taken }
-    ensures place { IfOk result (λ place. MatchOption place (LacksFeed buffer.new.pending) (IsFirstFeed buffer.new.pending)) }
+    ensures place { IfOk result (λ place. MatchOption place (LacksFeed buffer.new.pending)
+        (IsFirstFeed buffer.new.pending)) }
     ensures end { result ≡ Ok None → IsAtEnd (I.remaining src.new) }
-    ensures left { IfErr result (λ fault. Leaves fault buffer.old buffer.new (I.remaining src.old) (I.remaining src.new)) }
+    ensures left { IfErr result (λ fault. Leaves fault buffer.old buffer.new (I.remaining src.old)
+        (I.remaining src.new)) }
     ensures read { result ≡ Err LineFault.Read → Rose (I.faults src.old) (I.faults src.new) }
     ensures count { I.faults src.old ≤ I.faults src.new }
 {
@@ -185,7 +195,10 @@ fn first_feed(bytes: &[u8]) -> Option<usize>
 fn give_line(alloc: Global, buffer: &mut Buffer, place: usize) -> Result<Line, LineFault>
     requires { place < length buffer.old.pending }
     ensures line { IfOk result (IsAnswered (without_return (take place buffer.old.pending))) }
-    ensures rest { OnOk result (buffer.new ≡ record buffer.old { pending = drop (place + 1) buffer.old.pending }) }
+    ensures rest { OnOk result (buffer.new ≡ record buffer.old {
+      pending = drop
+          (place + 1) buffer.old.pending;
+    }) }
     ensures kept { OnErr result (buffer.new ≡ buffer.old) }
     ensures memory { IfErr result (λ fault. fault ≡ LineFault.Memory) }
 {

@@ -18,7 +18,8 @@ use workbook::{Book, Content};
 
 /// Whether a cell of one of the areas is changed or marked.
 fn has_hot(changed: &BTreeSet<Cell>, marks: &BTreeSet<Cell>, areas: &[Area]) -> bool
-    ensures { result ≡ list_any (is_hot changed.now.keys marks.now.keys) (flat_map cells_of areas.now) }
+    ensures { result ≡ list_any (is_hot changed.now.keys marks.now.keys)
+        (flat_map cells_of areas.now) }
 {
     has_within(changed, areas) || has_within(marks, areas)
 }
@@ -31,7 +32,8 @@ fn is_touched(
     marks: &BTreeSet<Cell>,
     cell: Cell,
 ) -> Result<bool, Memory>
-    ensures { IfOk result (λ touched. touched ≡ is_touched book.now.contents changed.now.keys marks.now.keys cell) }
+    ensures { IfOk result
+        (λ touched. touched ≡ is_touched book.now.contents changed.now.keys marks.now.keys cell) }
 {
     if changed.contains(&cell) {
         return Ok(true);
@@ -54,7 +56,8 @@ fn mark_touched(
     marks: &mut BTreeSet<Cell>,
 ) -> Result<bool, Memory>
     ensures keeps { KeepsMarks marks.old.keys marks.new.keys }
-    ensures touched { OnOk result (is_touched book.now.contents changed.now.keys marks.old.keys cell ≡ true
+    ensures touched { OnOk result (is_touched book.now.contents changed.now.keys marks.old.keys cell
+        ≡ true
         → is_among marks.new.keys cell ≡ true) }
     ensures only { (other : Cell) → is_among marks.new.keys other ≡ true
         → IsMarkedOrNew book.now.contents changed.now.keys marks.old.keys cell other }
@@ -78,9 +81,12 @@ fn mark_pass(
     marks: &mut BTreeSet<Cell>,
 ) -> Result<bool, Memory>
     ensures keeps { KeepsMarks marks.old.keys marks.new.keys }
-    ensures touched { OnOk result (MarksTouched book.now.contents changed.now.keys marks.old.keys cells.now marks.new.keys) }
-    ensures only_stale { OnOk result (IsInOrder book.now.contents → AreFormulas book.now.contents cells.now
-        → AreStale book.now.contents changed.now.keys marks.old.keys → AreStale book.now.contents changed.now.keys marks.new.keys) }
+    ensures touched { OnOk result
+        (MarksTouched book.now.contents changed.now.keys marks.old.keys cells.now marks.new.keys) }
+    ensures only_stale { OnOk result (IsInOrder book.now.contents
+        → AreFormulas book.now.contents cells.now
+        → AreStale book.now.contents changed.now.keys marks.old.keys
+        → AreStale book.now.contents changed.now.keys marks.new.keys) }
     ensures idle { result ≡ Ok false → marks.new.keys ≡ marks.old.keys }
 {
     let mut grew = false;
@@ -100,7 +106,8 @@ pub fn stale_cells(
 ) -> Result<BTreeSet<Cell>, Memory>
     requires ordered { IsInOrder book.now.contents }
     requires formulas { formulas.now ≡ formula_cells book.now.contents }
-    ensures { IfOk result (λ stale. (cell : Cell) → is_among stale.keys cell ≡ is_stale book.now.contents changed.now.keys cell) }
+    ensures { IfOk result (λ stale. (cell : Cell)
+        → is_among stale.keys cell ≡ is_stale book.now.contents changed.now.keys cell) }
 {
     let mut marks = BTreeSet::new(alloc);
     for _ in formulas {
@@ -127,7 +134,8 @@ pub fn formula_cells(alloc: Global, book: &Book) -> Result<Vec<Cell>, Memory>
 
 /// Adds the cell to the list if it has a formula.
 fn push_formula(book: &Book, cell: Cell, cells: &mut Vec<Cell>) -> Result<(), Memory>
-    ensures { OnOk result (cells.new.items ≡ cells.old.items ++ (if is_formula book.now.contents cell then cell ∷ [] else [])) }
+    ensures { OnOk result (cells.new.items ≡ cells.old.items
+        ++ (if is_formula book.now.contents cell then cell ∷ [] else [])) }
 {
     if !has_formula(book, cell) {
         return Ok(());

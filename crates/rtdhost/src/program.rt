@@ -64,7 +64,8 @@ pub fn rtd_host_plain<I: Source, O: Sink>(
     // With Ok all bytes were read, and what was written is the output that is defined for them.
     ensures ok_written { (input : List ℕ) → I.remaining src.old ≡ Some input → result ≡ Status.Ok
         → Appends (O.written out.old) (output_of (texts words.now) input) (O.written out.new) }
-    ensures ok_read { (input : List ℕ) → I.remaining src.old ≡ Some input → result ≡ Status.Ok → I.remaining src.new ≡ Some [] }
+    ensures ok_read { (input : List ℕ) → I.remaining src.old ≡ Some input → result ≡ Status.Ok
+        → I.remaining src.new ≡ Some [] }
     ensures ok_run { result ≡ Status.Ok → is_run (texts words.now) ≡ true }
 
     // All that was written is handed on with every status but WriteFault.
@@ -72,8 +73,10 @@ pub fn rtd_host_plain<I: Source, O: Sink>(
 
     // Other words are answered by the usage, and nothing is read.
     ensures usage { result ≡ Status.Usage → is_run (texts words.now) ≡ false }
-    ensures usage_line { result ≡ Status.Usage → Appends (O.written out.old) usage_line (O.written out.new) }
-    ensures refused { is_run (texts words.now) ≡ false → (result ≡ Status.Usage) ⊎ (result ≡ Status.WriteFault) }
+    ensures usage_line { result ≡ Status.Usage
+        → Appends (O.written out.old) usage_line (O.written out.new) }
+    ensures refused { is_run (texts words.now) ≡ false → (result ≡ Status.Usage)
+        ⊎ (result ≡ Status.WriteFault) }
     ensures unread { is_run (texts words.now) ≡ false → src.new ≡ src.old }
 
     // A failure was counted in this call.
@@ -81,21 +84,30 @@ pub fn rtd_host_plain<I: Source, O: Sink>(
     ensures write_fault { result ≡ Status.WriteFault → Rose (O.faults out.old) (O.faults out.new) }
 
     // Before a failed read and at the limit, all whole lines of the bytes that were taken were answered.
-    ensures read_answered { (input : List ℕ) → I.remaining src.old ≡ Some input → result ≡ Status.ReadFault
+    ensures read_answered { (input : List ℕ) → I.remaining src.old ≡ Some input
+        → result ≡ Status.ReadFault
         → (n : ℕ) × (I.remaining src.new ≡ Some (drop n input))
-        × Appends (O.written out.old) (replies_from first_state (whole_lines (take n input))) (O.written out.new) }
-    ensures limit { (input : List ℕ) → I.remaining src.old ≡ Some input → result ≡ Status.InputLimit → 67108864 < length input }
-    ensures limit_answered { (input : List ℕ) → I.remaining src.old ≡ Some input → result ≡ Status.InputLimit
-        → Appends (O.written out.old) (replies_from first_state (whole_lines (take 67108864 input))) (O.written out.new) }
-    ensures within { (input : List ℕ) → I.remaining src.old ≡ Some input → result ≡ Status.Ok → length input ≤ 67108864 }
+        × Appends (O.written out.old) (replies_from first_state (whole_lines (take n input)))
+        (O.written out.new) }
+    ensures limit { (input : List ℕ) → I.remaining src.old ≡ Some input → result ≡ Status.InputLimit
+        → 67108864 < length input }
+    ensures limit_answered { (input : List ℕ) → I.remaining src.old ≡ Some input
+        → result ≡ Status.InputLimit
+        → Appends (O.written out.old) (replies_from first_state (whole_lines (take 67108864 input)))
+        (O.written out.new) }
+    ensures within { (input : List ℕ) → I.remaining src.old ≡ Some input → result ≡ Status.Ok
+        → length input ≤ 67108864 }
 
     // With every status a front of the defined output was written, and nothing else.
     ensures front { (input : List ℕ) → I.remaining src.old ≡ Some input
-        → AppendsPrefix (O.written out.old) (output_of (texts words.now) input) (O.written out.new) }
+        → AppendsPrefix (O.written out.old) (output_of (texts words.now) input)
+        (O.written out.new) }
 
     // With no cause for another status it is Ok, or Memory, which alone has none.
-    ensures complete { (input : List ℕ) → I.remaining src.old ≡ Some input → is_run (texts words.now) ≡ true → length input ≤ 67108864
-        → (Rose (I.faults src.old) (I.faults src.new) → ⊥) → (Rose (O.faults out.old) (O.faults out.new) → ⊥)
+    ensures complete { (input : List ℕ) → I.remaining src.old ≡ Some input
+        → is_run (texts words.now) ≡ true → length input ≤ 67108864
+        → (Rose (I.faults src.old) (I.faults src.new) → ⊥)
+        → (Rose (O.faults out.old) (O.faults out.new) → ⊥)
         → (result ≡ Status.Ok) ⊎ (result ≡ Status.Memory) }
 {
     let status = respond(alloc, words, src, out);
@@ -108,12 +120,16 @@ pub fn rtd_host_plain<I: Source, O: Sink>(
 /// Runs the script or writes the usage.
 fn respond<I: Source, O: Sink>(alloc: Global, words: &[String], src: &mut I, out: &mut O) -> Status
     ensures ended { (input : List ℕ) → I.remaining src.old ≡ Some input
-        → HasEnded result (texts words.now) input (O.written out.old) (I.remaining src.new) (O.written out.new) }
-    ensures counted { IsFaultCounted result (I.faults src.old) (I.faults src.new) (O.faults out.old) (O.faults out.new) }
+        → HasEnded result (texts words.now) input (O.written out.old) (I.remaining src.new)
+        (O.written out.new) }
+    ensures counted { IsFaultCounted result (I.faults src.old) (I.faults src.new) (O.faults out.old)
+        (O.faults out.new) }
     ensures writes { O.faults out.old ≤ O.faults out.new }
     ensures ok { result ≡ Status.Ok → is_run (texts words.now) ≡ true }
-    ensures usage { result ≡ Status.Usage → (is_run (texts words.now) ≡ false) × Appends (O.written out.old) usage_line (O.written out.new) }
-    ensures refused { is_run (texts words.now) ≡ false → (src.new ≡ src.old) × ((result ≡ Status.Usage) ⊎ (result ≡ Status.WriteFault)) }
+    ensures usage { result ≡ Status.Usage → (is_run (texts words.now) ≡ false)
+        × Appends (O.written out.old) usage_line (O.written out.new) }
+    ensures refused { is_run (texts words.now) ≡ false → (src.new ≡ src.old)
+        × ((result ≡ Status.Usage) ⊎ (result ≡ Status.WriteFault)) }
 {
     if !is_run(words) {
         return refuse(out);
@@ -127,10 +143,13 @@ fn respond<I: Source, O: Sink>(alloc: Global, words: &[String], src: &mut I, out
 /// Reads a script to its end.
 fn run<I: Source, O: Sink>(alloc: Global, src: &mut I, out: &mut O) -> Result<(), Halt>
     ensures finished { (input : List ℕ) → I.remaining src.old ≡ Some input
-        → OnOk result (HasFinished input (O.written out.old) (I.remaining src.new) (O.written out.new)) }
+        → OnOk result (HasFinished input (O.written out.old) (I.remaining src.new)
+        (O.written out.new)) }
     ensures stopped { (input : List ℕ) → I.remaining src.old ≡ Some input
-        → IfErr result (λ halt. HasStopped halt input (O.written out.old) (I.remaining src.new) (O.written out.new)) }
-    ensures caused { IfErr result (λ halt. IsCaused halt (I.faults src.old) (I.faults src.new) (O.faults out.old) (O.faults out.new)) }
+        → IfErr result (λ halt. HasStopped halt input (O.written out.old) (I.remaining src.new)
+        (O.written out.new)) }
+    ensures caused { IfErr result (λ halt. IsCaused halt (I.faults src.old) (I.faults src.new)
+        (O.faults out.old) (O.faults out.new)) }
     ensures writes { O.faults out.old ≤ O.faults out.new }
 {
     Session::new(alloc).read_all(src, out)
@@ -138,8 +157,11 @@ fn run<I: Source, O: Sink>(alloc: Global, src: &mut I, out: &mut O) -> Result<()
 
 /// Writes the usage.
 fn refuse<O: Sink>(out: &mut O) -> Status
-    ensures usage { result ≡ Status.Usage → Appends (O.written out.old) usage_line (O.written out.new) }
-    ensures fault { result ≡ Status.WriteFault → AppendsPrefix (O.written out.old) usage_line (O.written out.new) × Rose (O.faults out.old) (O.faults out.new) }
+    ensures usage { result ≡ Status.Usage
+        → Appends (O.written out.old) usage_line (O.written out.new) }
+    ensures fault { result ≡ Status.WriteFault
+        → AppendsPrefix (O.written out.old) usage_line (O.written out.new)
+        × Rose (O.faults out.old) (O.faults out.new) }
     ensures either { (result ≡ Status.Usage) ⊎ (result ≡ Status.WriteFault) }
     ensures writes { O.faults out.old ≤ O.faults out.new }
 {

@@ -35,8 +35,10 @@ fn show_constant(
     cell: Cell,
     sheet: &mut BTreeMap<Cell, Option<Value>>,
 ) -> Result<(), Memory>
-    ensures keeps { OnOk result (KeepsMeanings book.now.contents sheet.old.entries sheet.new.entries) }
-    ensures shows { OnOk result (is_formula book.now.contents cell ≡ false → ShowsMeaning book.now.contents sheet.new.entries cell) }
+    ensures keeps { OnOk result
+        (KeepsMeanings book.now.contents sheet.old.entries sheet.new.entries) }
+    ensures shows { OnOk result (is_formula book.now.contents cell ≡ false
+        → ShowsMeaning book.now.contents sheet.new.entries cell) }
 {
     let Some(content) = book.get(cell) else {
         sheet.remove(&cell);
@@ -54,8 +56,10 @@ pub fn show_constants(
     changed: &BTreeSet<Cell>,
     sheet: &mut BTreeMap<Cell, Option<Value>>,
 ) -> Result<(), Memory>
-    ensures keeps { OnOk result (KeepsMeanings book.now.contents sheet.old.entries sheet.new.entries) }
-    ensures shows { OnOk result (ShowsConstants book.now.contents changed.now.keys sheet.new.entries) }
+    ensures keeps { OnOk result
+        (KeepsMeanings book.now.contents sheet.old.entries sheet.new.entries) }
+    ensures shows { OnOk result
+        (ShowsConstants book.now.contents changed.now.keys sheet.new.entries) }
 {
     for cell in changed {
         show_constant(book, *cell, sheet)?;
@@ -85,10 +89,14 @@ pub fn show_stale(
     cells: &[Cell],
     sheet: &mut BTreeMap<Cell, Option<Value>>,
 ) -> Result<(), Memory>
-    ensures keeps { OnOk result ((book : List (Cell × Content)) → IsEvaluated book stale.now.keys finished.now.entries
-        → ((c : Cell) → is_among stale.now.keys c ≡ true → is_formula book c ≡ true) → KeepsMeanings book sheet.old.entries sheet.new.entries) }
-    ensures shows { OnOk result ((book : List (Cell × Content)) → IsEvaluated book stale.now.keys finished.now.entries
-        → ((c : Cell) → is_among stale.now.keys c ≡ true → is_formula book c ≡ true) → ShowsStale book stale.now.keys cells.now sheet.new.entries) }
+    ensures keeps { OnOk result ((book : List (Cell × Content))
+        → IsEvaluated book stale.now.keys finished.now.entries
+        → ((c : Cell) → is_among stale.now.keys c ≡ true → is_formula book c ≡ true)
+        → KeepsMeanings book sheet.old.entries sheet.new.entries) }
+    ensures shows { OnOk result ((book : List (Cell × Content))
+        → IsEvaluated book stale.now.keys finished.now.entries
+        → ((c : Cell) → is_among stale.now.keys c ≡ true → is_formula book c ≡ true)
+        → ShowsStale book stale.now.keys cells.now sheet.new.entries) }
 {
     for cell in cells {
         show_if_stale(stale, finished, *cell, sheet)?;

@@ -29,7 +29,8 @@ pub fn recalculate(
     sheet: &mut BTreeMap<Cell, Option<Value>>,
 ) -> Result<u64, Memory>
     ensures shows { IfOk result (λ count. (before : List (Cell × Content)) → IsInOrder before
-        → ((cell : Cell) → ShowsMeaning before sheet.old.entries cell) → KeepsOthers changed.now.keys before book.now.contents
+        → ((cell : Cell) → ShowsMeaning before sheet.old.entries cell)
+        → KeepsOthers changed.now.keys before book.now.contents
         → (cell : Cell) → ShowsMeaning book.now.contents sheet.new.entries cell) }
     ensures count { IfOk result (λ count. count ≡ stale_count book.now.contents changed.now.keys) }
     ensures ordered { IsInOrder book.now.contents }
@@ -61,8 +62,10 @@ fn evaluate_all(
 ) -> Result<BTreeMap<Cell, Value>, Memory>
     requires ordered { IsInOrder book.now.contents }
     requires formulas { formulas.now ≡ formula_cells book.now.contents }
-    requires stale { (c : Cell) → is_among stale.now.keys c ≡ true → is_formula book.now.contents c ≡ true }
-    ensures { IfOk result (λ finished. ShowsOthers book.now.contents stale.now.keys sheet.now.entries
+    requires stale { (c : Cell) → is_among stale.now.keys c ≡ true
+        → is_formula book.now.contents c ≡ true }
+    ensures { IfOk result
+        (λ finished. ShowsOthers book.now.contents stale.now.keys sheet.now.entries
         → IsEvaluated book.now.contents stale.now.keys finished.entries) }
 {
     let sight = Sight {

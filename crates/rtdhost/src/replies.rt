@@ -83,7 +83,8 @@ fn push_number(number: u64, out: &mut Vec<u8>) -> Result<(), Memory>
 
 /// Appends a line of words and a number.
 fn push_numbered(words: &[u8], number: u64, out: &mut Vec<u8>) -> Result<(), Memory>
-    ensures ok { OnOk result (out.new.items ≡ out.old.items ++ line_of (words.now ++ decimal number)) }
+    ensures ok { OnOk result (out.new.items ≡ out.old.items
+        ++ line_of (words.now ++ decimal number)) }
     ensures kept { take (vec_len out.old) out.new.items ≡ out.old.items }
 {
     push(words, out)?;
@@ -93,7 +94,8 @@ fn push_numbered(words: &[u8], number: u64, out: &mut Vec<u8>) -> Result<(), Mem
 
 /// Appends the line of a completed recalculation.
 fn push_done(round: u64, cells: u64, out: &mut Vec<u8>) -> Result<(), Memory>
-    ensures ok { OnOk result (out.new.items ≡ out.old.items ++ reply_text (Reply.Done round cells)) }
+    ensures ok { OnOk result (out.new.items ≡ out.old.items
+        ++ reply_text (Reply.Done round cells)) }
     ensures kept { take (vec_len out.old) out.new.items ≡ out.old.items }
 {
     push(b"done ", out)?;
@@ -105,7 +107,8 @@ fn push_done(round: u64, cells: u64, out: &mut Vec<u8>) -> Result<(), Memory>
 
 /// Appends the lines of a sheet, and `end`.
 fn push_sheet(cells: &SheetCells, out: &mut Vec<u8>) -> Result<(), Memory>
-    ensures ok { OnOk result (out.new.items ≡ out.old.items ++ flat_map cell_line cells.now ++ line_of (codes "end")) }
+    ensures ok { OnOk result (out.new.items ≡ out.old.items ++ flat_map cell_line cells.now
+        ++ line_of (codes "end")) }
     ensures kept { take (vec_len out.old) out.new.items ≡ out.old.items }
 {
     for (cell, shown) in cells.as_slice() {
@@ -116,7 +119,8 @@ fn push_sheet(cells: &SheetCells, out: &mut Vec<u8>) -> Result<(), Memory>
 
 /// Appends the line of a cell.
 fn push_cell(cell: Cell, shown: Option<&Value>, out: &mut Vec<u8>) -> Result<(), Memory>
-    ensures ok { OnOk result (out.new.items ≡ out.old.items ++ cell_line (cell, option_copied shown.entry)) }
+    ensures ok { OnOk result (out.new.items ≡ out.old.items
+        ++ cell_line (cell, option_copied shown.entry)) }
     ensures kept { take (vec_len out.old) out.new.items ≡ out.old.items }
 {
     push_name(cell, out)?;
@@ -138,7 +142,8 @@ fn push_name(cell: Cell, out: &mut Vec<u8>) -> Result<(), Memory>
 
 /// Appends what a cell shows.
 fn push_shown(shown: Option<&Value>, out: &mut Vec<u8>) -> Result<(), Memory>
-    ensures ok { OnOk result (out.new.items ≡ out.old.items ++ shown_text (option_copied shown.entry)) }
+    ensures ok { OnOk result (out.new.items ≡ out.old.items
+        ++ shown_text (option_copied shown.entry)) }
     ensures err { OnErr result (out.new.items ≡ out.old.items) }
 {
     match shown {

@@ -121,7 +121,8 @@ fn read_content(alloc: Global, text: &str) -> Result<Content, BadLine>
 
 /// The formula that a text says.
 fn read_formula(alloc: Global, text: &str) -> Result<Content, BadLine>
-    ensures said { IfOk result (λ content. option_map Content.Formula (formula_of text.now) ≡ Some content) }
+    ensures said { IfOk result (λ content. option_map Content.Formula (formula_of text.now)
+        ≡ Some content) }
     ensures later { result ≡ Err BadLine.Later → formula_of text.now ≡ None }
 {
     match parse(alloc, text) {

@@ -5,7 +5,7 @@ ghost use Rattle.std.specs.Io.KnownBytes.{Keeps};
 ghost use Rattle.workbook.specs.State.{State, first_state};
 ghost use Rattle.rtdhost.specs.Engine.{Stands};
 ghost use Rattle.rtdhost.specs.Output.{said_reply, said_after};
-ghost use Rattle.rtdhost.specs.Reading.{consumed, IsTextOf};
+ghost use Rattle.rtdhost.specs.Reading.{given_out_count, IsTextOf};
 ghost use Rattle.rtdhost.specs.Script.{line_said};
 ghost use Rattle.rtdhost.specs.Session.{IsBounded, HasAnswered, HasFinished, HasStopped, IsCaused, IsWriteCaused, has_text, halt_of};
 ghost use Rattle.rtdhost.specs.Sink.{Appends, AppendsPrefix};
@@ -44,7 +44,8 @@ pub struct Session {
 impl Session {
     /// A session that has read nothing.
     pub fn new(alloc: Global) -> Session
-        ensures lines { result.lines ≡ record { pending = []; taken = 0; ended = false; fault = None } }
+        ensures lines { result.lines
+            ≡ record { pending = []; taken = 0; ended = false; fault = None } }
         ensures engine { Stands result.engine first_state }
     {
         Session {
@@ -60,12 +61,16 @@ impl Session {
         requires fault { self.old.lines.fault ≡ None }
         requires bounded { IsBounded self.old.engine self.old.lines }
         ensures finished { (all : List ℕ) (before : Option (List ℕ))
-            → HasAnswered all before self.old.engine self.old.lines (I.remaining src.old) (O.written out.old)
+            → HasAnswered all before self.old.engine self.old.lines (I.remaining src.old)
+            (O.written out.old)
             → OnOk result (HasFinished all before (I.remaining src.new) (O.written out.new)) }
         ensures stopped { (all : List ℕ) (before : Option (List ℕ))
-            → HasAnswered all before self.old.engine self.old.lines (I.remaining src.old) (O.written out.old)
-            → IfErr result (λ halt. HasStopped halt all before (I.remaining src.new) (O.written out.new)) }
-        ensures caused { IfErr result (λ halt. IsCaused halt (I.faults src.old) (I.faults src.new) (O.faults out.old) (O.faults out.new)) }
+            → HasAnswered all before self.old.engine self.old.lines (I.remaining src.old)
+            (O.written out.old)
+            → IfErr result (λ halt. HasStopped halt all before (I.remaining src.new)
+            (O.written out.new)) }
+        ensures caused { IfErr result (λ halt. IsCaused halt (I.faults src.old) (I.faults src.new)
+            (O.faults out.old) (O.faults out.new)) }
         ensures writes { O.faults out.old ≤ O.faults out.new }
     {
         while self.turn(src, out)? {}
@@ -77,23 +82,30 @@ impl Session {
         requires fault { self.old.lines.fault ≡ None }
         requires bounded { IsBounded self.old.engine self.old.lines }
         ensures more { (all : List ℕ) (before : Option (List ℕ))
-            → HasAnswered all before self.old.engine self.old.lines (I.remaining src.old) (O.written out.old)
+            → HasAnswered all before self.old.engine self.old.lines (I.remaining src.old)
+            (O.written out.old)
             → result ≡ Ok true
-            → HasAnswered all before self.new.engine self.new.lines (I.remaining src.new) (O.written out.new) }
+            → HasAnswered all before self.new.engine self.new.lines (I.remaining src.new)
+            (O.written out.new) }
         ensures finished { (all : List ℕ) (before : Option (List ℕ))
-            → HasAnswered all before self.old.engine self.old.lines (I.remaining src.old) (O.written out.old)
+            → HasAnswered all before self.old.engine self.old.lines (I.remaining src.old)
+            (O.written out.old)
             → result ≡ Ok false
             → HasFinished all before (I.remaining src.new) (O.written out.new) }
         ensures stopped { (all : List ℕ) (before : Option (List ℕ))
-            → HasAnswered all before self.old.engine self.old.lines (I.remaining src.old) (O.written out.old)
-            → IfErr result (λ halt. HasStopped halt all before (I.remaining src.new) (O.written out.new)) }
-        ensures caused { IfErr result (λ halt. IsCaused halt (I.faults src.old) (I.faults src.new) (O.faults out.old) (O.faults out.new)) }
+            → HasAnswered all before self.old.engine self.old.lines (I.remaining src.old)
+            (O.written out.old)
+            → IfErr result (λ halt. HasStopped halt all before (I.remaining src.new)
+            (O.written out.new)) }
+        ensures caused { IfErr result (λ halt. IsCaused halt (I.faults src.old) (I.faults src.new)
+            (O.faults out.old) (O.faults out.new)) }
         ensures reads { I.faults src.old ≤ I.faults src.new }
         ensures writes { O.faults out.old ≤ O.faults out.new }
         ensures fault { OnOk result (self.new.lines.fault ≡ None) }
         ensures bounded { result ≡ Ok true → IsBounded self.new.engine self.new.lines }
-        ensures advances { result ≡ Ok true → consumed self.old.lines < consumed self.new.lines }
-        ensures within { consumed self.new.lines ≤ 67108864 }
+        ensures advances { result ≡ Ok true
+            → given_out_count self.old.lines < given_out_count self.new.lines }
+        ensures within { given_out_count self.new.lines ≤ 67108864 }
     {
         match self.lines.next(src) {
             Ok(line) => self.answer(line, out),
@@ -105,13 +117,17 @@ impl Session {
     fn answer<O: Sink>(&mut self, line: Line, out: &mut O) -> Result<bool, Halt>
         requires { self.old.engine.round + 2 < 2 ^ 64 }
         ensures said { (s : State) (text : List ℕ) → Stands self.old.engine s → IsTextOf text line
-            → OnOk result (Appends (O.written out.old) (said_reply s (line_said text)) (O.written out.new)
+            → OnOk result (Appends (O.written out.old) (said_reply s (line_said text))
+            (O.written out.new)
             × Stands self.new.engine (said_after s (line_said text))) }
         ensures front { (s : State) (text : List ℕ) → Stands self.old.engine s → IsTextOf text line
-            → OnErr result (AppendsPrefix (O.written out.old) (said_reply s (line_said text)) (O.written out.new)) }
-        ensures more { MatchResult result (λ more. more ≡ has_text line) (λ _. has_text line ≡ true) }
+            → OnErr result (AppendsPrefix (O.written out.old) (said_reply s (line_said text))
+            (O.written out.new)) }
+        ensures more { MatchResult result (λ more. more ≡ has_text line) (λ _. has_text line
+            ≡ true) }
         ensures end { has_text line ≡ false → Keeps (O.written out.old) (O.written out.new) }
-        ensures caused { IfErr result (λ halt. IsWriteCaused halt (O.faults out.old) (O.faults out.new)) }
+        ensures caused { IfErr result (λ halt. IsWriteCaused halt (O.faults out.old)
+            (O.faults out.new)) }
         ensures writes { O.faults out.old ≤ O.faults out.new }
         ensures round { OnOk result (self.new.engine.round ≤ self.old.engine.round + 2) }
         ensures lines { self.new.lines ≡ self.old.lines }
@@ -127,8 +143,10 @@ impl Session {
     fn act(&mut self, line: Line) -> Result<bool, Memory>
         requires { self.old.engine.round + 2 < 2 ^ 64 }
         ensures said { (s : State) (text : List ℕ) → Stands self.old.engine s → IsTextOf text line
-            → OnOk result ((self.new.replies.items ≡ said_reply s (line_said text)) × Stands self.new.engine (said_after s (line_said text))) }
-        ensures more { MatchResult result (λ more. more ≡ has_text line) (λ _. has_text line ≡ true) }
+            → OnOk result ((self.new.replies.items ≡ said_reply s (line_said text))
+            × Stands self.new.engine (said_after s (line_said text))) }
+        ensures more { MatchResult result (λ more. more ≡ has_text line) (λ _. has_text line
+            ≡ true) }
         ensures round { OnOk result (self.new.engine.round ≤ self.old.engine.round + 2) }
         ensures lines { self.new.lines ≡ self.old.lines }
     {
@@ -148,9 +166,12 @@ impl Session {
 
     /// Writes the answer that is held.
     fn hand_over<O: Sink>(&self, out: &mut O) -> Result<bool, Halt>
-        ensures all { IfOk result (λ more. (more ≡ true) × Appends (O.written out.old) self.now.replies.items (O.written out.new)) }
-        ensures front { OnErr result (AppendsPrefix (O.written out.old) self.now.replies.items (O.written out.new)) }
-        ensures caused { IfErr result (λ halt. IsWriteCaused halt (O.faults out.old) (O.faults out.new)) }
+        ensures all { IfOk result (λ more. (more ≡ true)
+            × Appends (O.written out.old) self.now.replies.items (O.written out.new)) }
+        ensures front { OnErr result (AppendsPrefix (O.written out.old) self.now.replies.items
+            (O.written out.new)) }
+        ensures caused { IfErr result (λ halt. IsWriteCaused halt (O.faults out.old)
+            (O.faults out.new)) }
         ensures writes { O.faults out.old ≤ O.faults out.new }
     {
         match put(out, self.replies.as_slice()) {

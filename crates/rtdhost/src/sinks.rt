@@ -1,6 +1,6 @@
 ghost use Rattle.std.specs.Prelude.{◌≡◌, ◌<◌, ◌≤◌, ℕ, Bool, true, false, List, [], Option, Some, length, take, min, Contains, IsErr, IsTrue, ◌↔◌, ◌++◌, IfOk, OnOk, OnErr};
 ghost use Rattle.std.specs.Io.KnownBytes.{Keeps};
-ghost use Rattle.rtdhost.specs.Sink.{Appends, Rose, counted};
+ghost use Rattle.rtdhost.specs.Sink.{Appends, Rose, count_with_one_more};
 
 use super::sources::Failed;
 use std::alloc::Global;
@@ -21,7 +21,8 @@ pub trait Sink {
     fn write(&mut self, bytes: &[u8]) -> Result<usize, Failed>
         ensures fits { IfOk result (λ n. n ≤ length bytes.now) }
         ensures some { IfOk result (λ n. 0 < length bytes.now → 0 < n) }
-        ensures taken { IfOk result (λ n. Appends (written self.old) (take n bytes.now) (written self.new)) }
+        ensures taken { IfOk result (λ n. Appends (written self.old) (take n bytes.now)
+            (written self.new)) }
         ensures unfinished { is_finished self.new ≡ false }
 
         // A failure takes nothing and is counted.
@@ -87,8 +88,10 @@ impl MemorySink {
 
     /// Counts a call; true where it is to fail.
     fn is_failing(&mut self) -> bool
-        ensures fails { IsTrue result ↔ Contains self.old.fails (counted self.old.calls) }
-        ensures after { self.new ≡ record self.old { calls = counted self.old.calls; finished = false } }
+        ensures fails { IsTrue result ↔ Contains self.old.fails
+            (count_with_one_more self.old.calls) }
+        ensures after { self.new
+            ≡ record self.old { calls = count_with_one_more self.old.calls; finished = false } }
     {
         self.calls = self.calls.saturating_add(1);
         self.finished = false;
@@ -98,7 +101,8 @@ impl MemorySink {
     /// Counts a failure.
     fn fail(&mut self) -> Failed
         ensures count { self.old.faults ≤ self.new.faults }
-        ensures after { self.new ≡ record self.old { faults = counted self.old.faults } }
+        ensures after { self.new
+            ≡ record self.old { faults = count_with_one_more self.old.faults } }
     {
         self.faults = self.faults.saturating_add(1);
         Failed
@@ -115,17 +119,25 @@ impl Sink for MemorySink {
     fn write(&mut self, bytes: &[u8]) -> Result<usize, Failed>
         ensures fits { IfOk result (λ n. n ≤ length bytes.now) }
         ensures some { IfOk result (λ n. 0 < length bytes.now → 0 < n) }
-        ensures taken { IfOk result (λ n. Appends (Some self.old.written) (take n bytes.now) (Some self.new.written)) }
+        ensures taken { IfOk result (λ n. Appends (Some self.old.written) (take n bytes.now)
+            (Some self.new.written)) }
         ensures unfinished { self.new.finished ≡ false }
         ensures kept { OnErr result (Keeps (Some self.old.written) (Some self.new.written)) }
         ensures failed { OnErr result (Rose self.old.faults self.new.faults) }
         ensures count { self.old.faults ≤ self.new.faults }
 
         // A call that was to fail fails; another fails for want of memory alone.
-        ensures fails { Contains self.old.fails (counted self.old.calls) → IsErr result }
+        ensures fails { Contains self.old.fails (count_with_one_more self.old.calls)
+            → IsErr result }
         ensures most { IfOk result (λ n. n ≡ min self.old.piece (length bytes.now)) }
-        ensures after { IfOk result (λ n. self.new ≡ record self.old { written = self.old.written ++ take n bytes.now; calls = counted self.old.calls; finished = false }) }
-        ensures after_failure { OnErr result (self.new ≡ record self.old { calls = counted self.old.calls; faults = counted self.old.faults; finished = false }) }
+        ensures after { IfOk result (λ n. self.new
+            ≡ record self.old {
+              written = self.old.written
+                  ++ take n bytes.now;
+              calls = count_with_one_more self.old.calls;
+              finished = false;
+            }) }
+        ensures after_failure { OnErr result (self.new ≡ record self.old { calls = count_with_one_more self.old.calls; faults = count_with_one_more self.old.faults; finished = false }) }
     {
         if self.is_failing() {
             return Err(self.fail());
@@ -144,9 +156,12 @@ impl Sink for MemorySink {
         ensures failed { OnErr result (Rose self.old.faults self.new.faults) }
         ensures count { self.old.faults ≤ self.new.faults }
 
-        ensures fails { IsErr result ↔ Contains self.old.fails (counted self.old.calls) }
-        ensures after { OnOk result (self.new ≡ record self.old { calls = counted self.old.calls; finished = true }) }
-        ensures after_failure { OnErr result (self.new ≡ record self.old { calls = counted self.old.calls; faults = counted self.old.faults; finished = false }) }
+        ensures fails { IsErr result ↔ Contains self.old.fails
+            (count_with_one_more self.old.calls) }
+        ensures after { OnOk result
+            (self.new
+            ≡ record self.old { calls = count_with_one_more self.old.calls; finished = true }) }
+        ensures after_failure { OnErr result (self.new ≡ record self.old { calls = count_with_one_more self.old.calls; faults = count_with_one_more self.old.faults; finished = false }) }
     {
         if self.is_failing() {
             return Err(self.fail());

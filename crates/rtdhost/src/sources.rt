@@ -1,6 +1,6 @@
 ghost use Rattle.std.specs.Prelude.{◌≡◌, ◌<◌, ◌≤◌, ◌↔◌, ℕ, List, Option, Some, length, take, min, Contains, IsErr, IfOk, OnErr};
 ghost use Rattle.std.specs.Io.KnownBytes.{Consumes, Keeps, IsAtEnd};
-ghost use Rattle.rtdhost.specs.Sink.{counted, Rose};
+ghost use Rattle.rtdhost.specs.Sink.{count_with_one_more, Rose};
 
 use std::marker::Model;
 
@@ -20,7 +20,8 @@ pub trait Source {
     /// of the input.
     fn read(&mut self, buf: &mut [u8]) -> Result<usize, Failed>
         ensures fits { IfOk result (λ n. n ≤ length buf.new) }
-        ensures given { IfOk result (λ n. Consumes (remaining self.old) (remaining self.new) (take n buf.new)) }
+        ensures given { IfOk result (λ n. Consumes (remaining self.old) (remaining self.new)
+            (take n buf.new)) }
         ensures end { result ≡ Ok 0 → 0 < length buf.new → IsAtEnd (remaining self.new) }
 
         // A failure takes nothing and is counted.
@@ -77,15 +78,18 @@ impl Source for MemorySource {
 
     fn read(&mut self, buf: &mut [u8]) -> Result<usize, Failed>
         ensures fits { IfOk result (λ n. n ≤ length buf.new) }
-        ensures given { IfOk result (λ n. Consumes (Some self.old.left) (Some self.new.left) (take n buf.new)) }
+        ensures given { IfOk result (λ n. Consumes (Some self.old.left) (Some self.new.left)
+            (take n buf.new)) }
         ensures end { result ≡ Ok 0 → 0 < length buf.new → IsAtEnd (Some self.new.left) }
         ensures kept { OnErr result (Keeps (Some self.old.left) (Some self.new.left)) }
         ensures failed { OnErr result (Rose self.old.faults self.new.faults) }
         ensures count { self.old.faults ≤ self.new.faults }
 
-        ensures fails { IsErr result ↔ Contains self.old.fails (counted self.old.calls) }
-        ensures most { IfOk result (λ n. n ≡ min self.old.piece (min (length buf.old) (length self.old.left))) }
-        ensures calls { self.new.calls ≡ counted self.old.calls }
+        ensures fails { IsErr result ↔ Contains self.old.fails
+            (count_with_one_more self.old.calls) }
+        ensures most { IfOk result (λ n. n ≡ min self.old.piece
+            (min (length buf.old) (length self.old.left))) }
+        ensures calls { self.new.calls ≡ count_with_one_more self.old.calls }
         ensures settings { (self.new.piece ≡ self.old.piece) × (self.new.fails ≡ self.old.fails) }
         ensures faults { IfOk result (λ _. self.new.faults ≡ self.old.faults) }
     {

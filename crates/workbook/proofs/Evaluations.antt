@@ -21,15 +21,15 @@ use Rattle.formula_parse.specs.declared.nodes.Node.{Node}
 use Rattle.formula_parse.specs.declared.nodes.Node.TheVariants as nodes
 use Rattle.formula_parse.specs.declared.nodes.Node.TheOpen as layer
 use Rattle.formula_parse.specs.declared.operators.Operator.{Operator}
-use Rattle.formula_parse.specs.Tree.{areas_named, areas_step, chained, precedents}
+use Rattle.formula_parse.specs.Tree.{areas_named, areas_step, concat, precedents}
 use Rattle.formula_parse.proofs.NodeLaws.{fold_number, fold_text, fold_error, fold_boolean, fold_reference, fold_area, fold_call, fold_parentheses, fold_negation, fold_chain, node_induction}
-use Rattle.functions.specs.Applied.{applied}
+use Rattle.functions.specs.Applied.{result_of}
 use Rattle.functions.specs.Functions.{function_named, arity_of}
 use Rattle.functions.specs.declared.arguments.Arg.{Arg}
 use Rattle.functions.specs.declared.arguments.Arg.TheVariants as inputs
 use Rattle.functions.specs.declared.functions.Function.{Function}
 use Rattle.functions.specs.declared.functions.Function.TheVariants as functions
-use Rattle.workbook.specs.Evaluation.{World, Answer, Val, Part, Argument, evaluated, part_of, part_step, final_answer, failed, takes_area, with_input, with_inputs, function_answer, is_within, rtd_answer, added_answer, call_answer, own_site, sites_in, placed}
+use Rattle.workbook.specs.Evaluation.{World, Answer, Val, Part, Argument, answer_of, part_of, part_step, final_answer, error_answer, takes_area, with_input, with_inputs, function_answer, is_within, rtd_answer, added_answer, call_answer, own_site, sites_in, arguments_of}
 
 -- ---- lists
 -- what holds of each of two lists together, holds of each of the first
@@ -103,7 +103,7 @@ module _ (world : World) (f g : Cell → Value) where
   function_alike functions.IfError arguments same = refl
   function_alike functions.IfNa arguments same = refl
   function_alike functions.Choose arguments same = refl
-  function_alike other arguments same = inputs_alike other 0 arguments (λ args. Val (applied other args)) same
+  function_alike other arguments same = inputs_alike other 0 arguments (λ args. Val (result_of other args)) same
 
   -- a name that is neither built in nor RTD
   added_alike : (registration : Option Registration) (site : ℕ) (name : List ℕ) (arguments : List Argument)
@@ -115,7 +115,7 @@ module _ (world : World) (f g : Cell → Value) where
   call_alike : (known : Option Function) (site : ℕ) (name : List ℕ) (arguments : List Argument) → AllByRecursion (λ (a : Argument). SameArea a.area) arguments
       → call_answer over_f known site name arguments ≡ call_answer over_g known site name arguments
   call_alike (Some function) site name arguments same =
-      ap (λ answer. cond (is_within (arity_of function) (length arguments)) answer (failed errors.Value)) (function_alike function arguments same)
+      ap (λ answer. cond (is_within (arity_of function) (length arguments)) answer (error_answer errors.Value)) (function_alike function arguments same)
   call_alike None site name arguments same =
       ap (λ answer. cond (bytes_eq name (codes "RTD")) (rtd_answer over_f arguments) answer) (added_alike (world.registered name) site name arguments)
 
@@ -135,18 +135,18 @@ module _ (world : World) (f g : Cell → Value) where
   DependsOnNamed node = AllByRecursion SameValue (precedents node world.home) → Alike (part_of over_f node) (part_of over_g node)
 
   -- the areas of arguments are those of their parts
-  placed_areas : (before : ℕ) (parts : List Part) → AllByRecursion (λ (part : Part). SameArea part.area) parts → AllByRecursion (λ (a : Argument). SameArea a.area) (placed before parts)
+  placed_areas : (before : ℕ) (parts : List Part) → AllByRecursion (λ (part : Part). SameArea part.area) parts → AllByRecursion (λ (a : Argument). SameArea a.area) (arguments_of before parts)
   placed_areas before [] same = tt
   placed_areas before (part ∷ parts) same = (same.0, placed_areas (before + part.sites) parts same.1)
 
   -- the parts of several nodes
-  parts_alike : (ns : List Node) → All DependsOnNamed ns → AllByRecursion SameValue (flat_map cells_of (chained (map (λ n. areas_named n world.home) ns)))
+  parts_alike : (ns : List Node) → All DependsOnNamed ns → AllByRecursion SameValue (flat_map cells_of (concat (map (λ n. areas_named n world.home) ns)))
       → AllAlike (map (part_of over_f) ns) (map (part_of over_g) ns)
   parts_alike [] h each = record { same = refl; areas = tt }
   parts_alike (n ∷ ns) h each =
-      let both = subst (AllByRecursion SameValue) (flat_map-append cells_of (areas_named n world.home) (chained (map (λ m. areas_named m world.home) ns))) each in
-      let first = All-head DependsOnNamed n ns h (each_front SameValue (precedents n world.home) (flat_map cells_of (chained (map (λ m. areas_named m world.home) ns))) both) in
-      let others = parts_alike ns (All-tail DependsOnNamed n ns h) (each_back SameValue (precedents n world.home) (flat_map cells_of (chained (map (λ m. areas_named m world.home) ns))) both) in
+      let both = subst (AllByRecursion SameValue) (flat_map-append cells_of (areas_named n world.home) (concat (map (λ m. areas_named m world.home) ns))) each in
+      let first = All-head DependsOnNamed n ns h (each_front SameValue (precedents n world.home) (flat_map cells_of (concat (map (λ m. areas_named m world.home) ns))) both) in
+      let others = parts_alike ns (All-tail DependsOnNamed n ns h) (each_back SameValue (precedents n world.home) (flat_map cells_of (concat (map (λ m. areas_named m world.home) ns))) both) in
       record {
         same = ap (λ part. part ∷ map (part_of over_f) ns) first.same ∙ ap (λ parts. part_of over_g n ∷ parts) others.same;
         areas = (first.area, others.areas);
@@ -168,7 +168,7 @@ module _ (world : World) (f g : Cell → Value) where
   step_call name parts others alike = record {
     same =
         ap (λ (value : ℕ → Answer). record { sites = own_site name + sites_in parts; area = None; value = value })
-        (fun_ext (λ before. ap final_answer (call_alike (function_named name) (suc before) name (placed (before + own_site name) parts) (placed_areas (before + own_site name) parts alike.areas))))
+        (fun_ext (λ before. ap final_answer (call_alike (function_named name) (suc before) name (arguments_of (before + own_site name) parts) (placed_areas (before + own_site name) parts alike.areas))))
         ∙ ap (λ list. part_step over_g (layer.Call name list)) alike.same;
     area = tt;
   }
@@ -216,7 +216,7 @@ module _ (world : World) (f g : Cell → Value) where
   depends_call name arguments h each =
       alike_as _ _ _ _ (fold_call Part (part_step over_f) name arguments) (fold_call Part (part_step over_g) name arguments)
       (step_call name (map (part_of over_f) arguments) (map (part_of over_g) arguments)
-      (parts_alike arguments h (names_known (nodes.Call name arguments) (chained (map (λ n. areas_named n world.home) arguments)) (fold_call (List Area) (areas_step world.home) name arguments) each)))
+      (parts_alike arguments h (names_known (nodes.Call name arguments) (concat (map (λ n. areas_named n world.home) arguments)) (fold_call (List Area) (areas_step world.home) name arguments) each)))
 
   -- what stands in parentheses
   depends_parentheses : (inner : Node) → DependsOnNamed inner → DependsOnNamed (nodes.Parentheses inner)
@@ -235,7 +235,7 @@ module _ (world : World) (f g : Cell → Value) where
   -- a chain
   depends_chain : (operands : List Node) (ops : List Operator) → All DependsOnNamed operands → DependsOnNamed (nodes.Chain operands ops)
   depends_chain operands ops h each =
-      let alike = parts_alike operands h (names_known (nodes.Chain operands ops) (chained (map (λ n. areas_named n world.home) operands)) (fold_chain (List Area) (areas_step world.home) operands ops) each) in
+      let alike = parts_alike operands h (names_known (nodes.Chain operands ops) (concat (map (λ n. areas_named n world.home) operands)) (fold_chain (List Area) (areas_step world.home) operands ops) each) in
       alike_as _ _ _ _ (fold_chain Part (part_step over_f) operands ops) (fold_chain Part (part_step over_g) operands ops)
       (record { same = ap (λ parts. part_step over_g (layer.Chain parts ops)) alike.same; area = tt })
 
@@ -247,5 +247,5 @@ module _ (world : World) (f g : Cell → Value) where
 
 -- the answer of a formula is the same over the same values of the cells that it names
 pub evaluated_alike : (world : World) (f g : Cell → Value) (tree : Node) → AllByRecursion (λ d. f d ≡ g d) (precedents tree world.home)
-    → evaluated (record world { input = f }) tree ≡ evaluated (record world { input = g }) tree
+    → answer_of (record world { input = f }) tree ≡ answer_of (record world { input = g }) tree
 evaluated_alike world f g tree each = ap (λ (part : Part). final_answer (part.value 0)) (depends_on_named world f g tree each).same

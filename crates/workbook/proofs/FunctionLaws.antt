@@ -12,28 +12,28 @@ use Rattle.std.specs.declared.cmp.Ordering.TheVariants.{Less, Equal, Greater}
 use Rattle.std.specs.declared.string.String.{String}
 use Rattle.std.proofs.lemmas.Map.Lookups.{exact_bytes}
 use Rattle.addin_types.specs.declared.registrations.Registration.{Registration}
-use Rattle.workbook.specs.Functions.{name_cmp, key_cmp, AreInOrder, AreNamed, named, is_past, next_name}
+use Rattle.workbook.specs.Functions.{name_cmp, key_cmp, AreInOrder, AreNamed, functions_of, is_past, next_name}
 
 -- a look-up by the bytes of the keys
 pub lookup-named : {Z : Type 0} (test : List ℕ → Bool) (es : List (String Z × (List ℕ × Registration)))
-    → lookup test (named es) ≡ option_map (λ v. v.1) (lookup (λ k. test (string_bytes k)) es)
+    → lookup test (functions_of es) ≡ option_map (λ v. v.1) (lookup (λ k. test (string_bytes k)) es)
 lookup-named test [] = refl
 lookup-named test (e ∷ es) = by (test (string_bytes e.0)) (lookup-named test es)
   where
-    by : (b : Bool) → lookup test (named es) ≡ option_map (λ v. v.1) (lookup (λ k. test (string_bytes k)) es)
-        → cond b (Some e.1.1) (lookup test (named es)) ≡ option_map (λ v. v.1) (cond b (Some e.1) (lookup (λ k. test (string_bytes k)) es))
+    by : (b : Bool) → lookup test (functions_of es) ≡ option_map (λ v. v.1) (lookup (λ k. test (string_bytes k)) es)
+        → cond b (Some e.1.1) (lookup test (functions_of es)) ≡ option_map (λ v. v.1) (cond b (Some e.1) (lookup (λ k. test (string_bytes k)) es))
     by true h = refl
     by false h = h
 
 -- an entry goes to the place of its name
 pub insert-named : {Z : Type 0} (es : List (String Z × (List ℕ × Registration))) (k : String Z) (v : List ℕ × Registration)
-    → named (insert_entry key_cmp es k v) ≡ insert_entry name_cmp (named es) (string_bytes k) v.1
+    → functions_of (insert_entry key_cmp es k v) ≡ insert_entry name_cmp (functions_of es) (string_bytes k) v.1
 insert-named [] k v = refl
 insert-named (e ∷ es) k v = by (key_cmp k e.0) (insert-named es k v)
   where
-    by : (o : Ordering) → named (insert_entry key_cmp es k v) ≡ insert_entry name_cmp (named es) (string_bytes k) v.1
-        → named (match_ordering o ((k, v) ∷ e ∷ es) ((e.0, v) ∷ es) (e ∷ insert_entry key_cmp es k v))
-        ≡ match_ordering o ((string_bytes k, v.1) ∷ named (e ∷ es)) ((string_bytes e.0, v.1) ∷ named es) ((string_bytes e.0, e.1.1) ∷ insert_entry name_cmp (named es) (string_bytes k) v.1)
+    by : (o : Ordering) → functions_of (insert_entry key_cmp es k v) ≡ insert_entry name_cmp (functions_of es) (string_bytes k) v.1
+        → functions_of (match_ordering o ((k, v) ∷ e ∷ es) ((e.0, v) ∷ es) (e ∷ insert_entry key_cmp es k v))
+        ≡ match_ordering o ((string_bytes k, v.1) ∷ functions_of (e ∷ es)) ((string_bytes e.0, v.1) ∷ functions_of es) ((string_bytes e.0, e.1.1) ∷ insert_entry name_cmp (functions_of es) (string_bytes k) v.1)
     by Less h = refl
     by Equal h = refl
     by Greater h = ap (λ fs. (string_bytes e.0, e.1.1) ∷ fs) h
@@ -51,39 +51,39 @@ insert-keeps_names (e ∷ es) k v each is = by (insert-keeps_names es k v each.1
 
 -- keys in order have their bytes in order
 below_all : {Z : Type 0} (k : String Z) (es : List (String Z × (List ℕ × Registration)))
-    → AllByRecursion (λ y. key_cmp k y ≡ Less) (keys_of es) → AllByRecursion (λ y. name_cmp (string_bytes k) y ≡ Less) (keys_of (named es))
+    → AllByRecursion (λ y. key_cmp k y ≡ Less) (keys_of es) → AllByRecursion (λ y. name_cmp (string_bytes k) y ≡ Less) (keys_of (functions_of es))
 below_all k [] each = tt
 below_all k (e ∷ es) each = (each.0, below_all k es each.1)
 
-pub named-ordered : {Z : Type 0} (es : List (String Z × (List ℕ × Registration))) → IsStrictlySortedBy key_cmp (keys_of es) → AreInOrder (named es)
+pub named-ordered : {Z : Type 0} (es : List (String Z × (List ℕ × Registration))) → IsStrictlySortedBy key_cmp (keys_of es) → AreInOrder (functions_of es)
 unfolding IsStrictlySortedBy
 named-ordered [] sorted = tt
 named-ordered (e ∷ es) sorted = (below_all e.0 es sorted.0, named-ordered es sorted.1)
 
 -- where the first name that is left is past, it is the next one
 pub next-here : {Z : Type 0} (es rest : List (String Z × (List ℕ × Registration))) (k : String Z) (v : List ℕ × Registration) (after target : Option (List ℕ)) (past : Bool)
-    → es ≡ (k, v) ∷ rest → (next_name (named es) after ≡ target) × AreNamed es → past ≡ is_past after (string_bytes k) → past ≡ true → Some v.0 ≡ target
+    → es ≡ (k, v) ∷ rest → (next_name (functions_of es) after ≡ target) × AreNamed es → past ≡ is_past after (string_bytes k) → past ≡ true → Some v.0 ≡ target
 next-here es rest k v after target past is known tested passes =
     let each = subst AreNamed is known.1 in
     ap Some each.0
-    ∙ sym (ap (λ b. cond b (Some (string_bytes k)) (next_name (named rest) after)) (sym tested ∙ passes))
-    ∙ sym (ap (λ fs. next_name (named fs) after) is) ∙ known.0
+    ∙ sym (ap (λ b. cond b (Some (string_bytes k)) (next_name (functions_of rest) after)) (sym tested ∙ passes))
+    ∙ sym (ap (λ fs. next_name (functions_of fs) after) is) ∙ known.0
 
 -- else it is sought among the others
 pub next-later : {Z : Type 0} (es rest : List (String Z × (List ℕ × Registration))) (k : String Z) (v : List ℕ × Registration) (after target : Option (List ℕ)) (past : Bool)
-    → es ≡ (k, v) ∷ rest → (next_name (named es) after ≡ target) × AreNamed es → past ≡ is_past after (string_bytes k) → past ≡ false
-    → (next_name (named rest) after ≡ target) × AreNamed rest
+    → es ≡ (k, v) ∷ rest → (next_name (functions_of es) after ≡ target) × AreNamed es → past ≡ is_past after (string_bytes k) → past ≡ false
+    → (next_name (functions_of rest) after ≡ target) × AreNamed rest
 next-later es rest k v after target past is known tested fails =
     let each = subst AreNamed is known.1 in (
-      sym (ap (λ b. cond b (Some (string_bytes k)) (next_name (named rest) after)) (sym tested ∙ fails))
-          ∙ sym (ap (λ fs. next_name (named fs) after) is) ∙ known.0,
+      sym (ap (λ b. cond b (Some (string_bytes k)) (next_name (functions_of rest) after)) (sym tested ∙ fails))
+          ∙ sym (ap (λ fs. next_name (functions_of fs) after) is) ∙ known.0,
       each.1,
     )
 
 -- where none is left there is no next name
 pub next-none : {Z : Type 0} (es : List (String Z × (List ℕ × Registration))) (after target : Option (List ℕ))
-    → es ≡ [] → (next_name (named es) after ≡ target) × AreNamed es → None ≡ target
-next-none es after target is known = sym (ap (λ fs. next_name (named fs) after) is) ∙ known.0
+    → es ≡ [] → (next_name (functions_of es) after ≡ target) × AreNamed es → None ≡ target
+next-none es after target is known = sym (ap (λ fs. next_name (functions_of fs) after) is) ∙ known.0
 
 -- whether or not an entry goes in, each name stands at its own bytes
 pub kept-names : {Z X E : Type 0} (r : Result X E) (old new : List (String Z × (List ℕ × Registration))) (k : String Z) (v : List ℕ × Registration)
@@ -93,7 +93,7 @@ kept-names (Err e) old new k v done refused each is = subst AreNamed (sym refuse
 
 -- an entry that goes in goes to the place of its name
 pub put-named : {Z X E : Type 0} (r : Result X E) (old new : List (String Z × (List ℕ × Registration))) (k : String Z) (v : List ℕ × Registration) (before : List (List ℕ × Registration))
-    → OnOk r (new ≡ insert_entry key_cmp old k v) → named old ≡ before → string_bytes k ≡ v.0 → OnOk r (named new ≡ insert_entry name_cmp before v.0 v.1)
+    → OnOk r (new ≡ insert_entry key_cmp old k v) → functions_of old ≡ before → string_bytes k ≡ v.0 → OnOk r (functions_of new ≡ insert_entry name_cmp before v.0 v.1)
 put-named (Ok x) old new k v before done was is =
-    ap named done ∙ insert-named old k v ∙ ap (λ es. insert_entry name_cmp es (string_bytes k) v.1) was ∙ ap (λ n. insert_entry name_cmp before n v.1) is
+    ap functions_of done ∙ insert-named old k v ∙ ap (λ es. insert_entry name_cmp es (string_bytes k) v.1) was ∙ ap (λ n. insert_entry name_cmp before n v.1) is
 put-named (Err e) old new k v before done was is = tt

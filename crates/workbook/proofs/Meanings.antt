@@ -8,10 +8,10 @@ use Rattle.formula_parse.specs.declared.nodes.Node.{Node}
 use Rattle.formula_parse.specs.Tree.{precedents}
 use Rattle.workbook.specs.declared.contents.Content.{Content}
 use Rattle.workbook.specs.declared.contents.Content.TheVariants as contents
-use Rattle.workbook.specs.Book.{IsInOrder, content_at, has_formula, named_by, is_formula, named_cells, formula_count}
+use Rattle.workbook.specs.Book.{IsInOrder, content_at, has_formula, content_precedents, is_formula, cell_precedents, formula_count}
 use Rattle.workbook.specs.Circular.{walks_on, is_circular}
-use Rattle.workbook.specs.Evaluation.{evaluated}
-use Rattle.workbook.specs.Meaning.{Setting, Meaning, Val, Circ, Open, world_at, meant, value_in, is_open, content_meaning, meaning_within, meaning}
+use Rattle.workbook.specs.Evaluation.{answer_of}
+use Rattle.workbook.specs.Meaning.{Setting, Meaning, Val, Circ, Open, world_at, meaning_of_answer, value_in, is_open, content_meaning, meaning_within, meaning}
 use Rattle.workbook.specs.Stale.{is_among, reaches, is_stale}
 use Rattle.workbook.proofs.Evaluations.{evaluated_alike}
 use Rattle.workbook.proofs.Walking.{walks-shorter, circular-walks, circular-names}
@@ -33,10 +33,10 @@ formula_alike : (setting : Setting) (cell : Cell) (f g : Cell → Meaning) (tree
 formula_alike setting cell f g tree each =
     let waits = any_each (λ d. is_open (f d)) (λ d. is_open (g d)) (precedents tree cell.sheet) (each_leads _ _ (λ d h. ap is_open h) (precedents tree cell.sheet) each) in
     let inputs = evaluated_alike (world_at setting cell (λ d. value_in (f d))) (λ d. value_in (f d)) (λ d. value_in (g d)) tree (each_leads _ _ (λ d h. ap value_in h) (precedents tree cell.sheet) each) in
-    ap (λ b. cond b Open (meant (evaluated (world_at setting cell (λ d. value_in (f d))) tree))) waits
-    ∙ ap (λ a. cond (list_any (λ d. is_open (g d)) (precedents tree cell.sheet)) Open (meant a)) inputs
+    ap (λ b. cond b Open (meaning_of_answer (answer_of (world_at setting cell (λ d. value_in (f d))) tree))) waits
+    ∙ ap (λ a. cond (list_any (λ d. is_open (g d)) (precedents tree cell.sheet)) Open (meaning_of_answer a)) inputs
 
-pub content_alike : (setting : Setting) (cell : Cell) (content : Option Content) (f g : Cell → Meaning) → AllByRecursion (λ d. f d ≡ g d) (named_by content cell.sheet)
+pub content_alike : (setting : Setting) (cell : Cell) (content : Option Content) (f g : Cell → Meaning) → AllByRecursion (λ d. f d ≡ g d) (content_precedents content cell.sheet)
     → content_meaning setting cell f content ≡ content_meaning setting cell g content
 content_alike setting cell None f g each = refl
 content_alike setting cell (Some (contents.Num n)) f g each = refl
@@ -66,7 +66,7 @@ module _ (setting : Setting) (book : List (Cell × Content)) where
   -- a cell without a walk of n steps has its meaning within n steps
   pub meaning-settles : (n : ℕ) (c : Cell) → walks_on book n c ≡ false → meaning_within setting book (suc n) c ≡ meaning_within setting book n c
   meaning-settles zero c h = constant_alike setting c (content_at book c) (meaning_within setting book zero) (λ d. Val Blank) h
-  meaning-settles (suc n) c h = content_alike setting c (content_at book c) (meaning_within setting book (suc n)) (meaning_within setting book n) (none_where (walks_on book n) _ (meaning-settles n) (named_cells book c) h)
+  meaning-settles (suc n) c h = content_alike setting c (content_at book c) (meaning_within setting book (suc n)) (meaning_within setting book n) (none_where (walks_on book n) _ (meaning-settles n) (cell_precedents book c) h)
 
   meaning-stays : (n k : ℕ) (c : Cell) → walks_on book n c ≡ false → (walks_on book (k + n) c ≡ false) × (meaning_within setting book (k + n) c ≡ meaning_within setting book n c)
   meaning-stays n zero c h = subst (λ m. (walks_on book m c ≡ false) × (meaning_within setting book m c ≡ meaning_within setting book n c)) zeroed (h, refl)
@@ -101,18 +101,18 @@ module _ (setting : Setting) (book : List (Cell × Content)) where
       shows_within c h
       ∙ sym (meaning-settles (formula_count book) c h)
       ∙ sym (content_alike setting c (content_at book c) (meaning setting book) (meaning_within setting book (formula_count book))
-      (none_where (is_circular book) _ shows_within (named_cells book c) (sym (circular-names book ordered c) ∙ h)))
+      (none_where (is_circular book) _ shows_within (cell_precedents book c) (sym (circular-names book ordered c) ∙ h)))
 
 module _ (setting : Setting) (before now : List (Cell × Content)) (changed : List Cell) (before_ordered : IsInOrder before) (now_ordered : IsInOrder now) (kept : (c : Cell) → is_among changed c ≡ false → content_at before c ≡ content_at now c) where
   -- no changed cell is reached
   abbrev clean : Cell → Type 0
   clean c = reaches now changed (formula_count now) c ≡ false
 
-  clean-parts : (c : Cell) → clean c → (is_among changed c ≡ false) × (list_any (reaches now changed (formula_count now)) (named_cells now c) ≡ false)
+  clean-parts : (c : Cell) → clean c → (is_among changed c ≡ false) × (list_any (reaches now changed (formula_count now)) (cell_precedents now c) ≡ false)
   clean-parts c h = or_false _ _ (reaches-enough now now_ordered changed c ∙ h)
 
-  named_alike : (c : Cell) → clean c → named_cells before c ≡ named_cells now c
-  named_alike c h = ap (λ o. named_by o c.sheet) (kept c (clean-parts c h).0)
+  named_alike : (c : Cell) → clean c → cell_precedents before c ≡ cell_precedents now c
+  named_alike c h = ap (λ o. content_precedents o c.sheet) (kept c (clean-parts c h).0)
 
   any_where : (p q : Cell → Bool) → ((d : Cell) → clean d → p d ≡ q d) → (ds : List Cell) → list_any (reaches now changed (formula_count now)) ds ≡ false → list_any p ds ≡ list_any q ds
   any_where p q alike [] h = refl
@@ -124,13 +124,13 @@ module _ (setting : Setting) (before now : List (Cell × Content)) (changed : Li
   walks_alike zero c h = ap has_formula (kept c (clean-parts c h).0)
   walks_alike (suc n) c h =
       ap (list_any (walks_on before n)) (named_alike c h)
-      ∙ any_where (walks_on before n) (walks_on now n) (walks_alike n) (named_cells now c) (clean-parts c h).1
+      ∙ any_where (walks_on before n) (walks_on now n) (walks_alike n) (cell_precedents now c) (clean-parts c h).1
 
   meanings_alike : (n : ℕ) (c : Cell) → clean c → meaning_within setting before n c ≡ meaning_within setting now n c
   meanings_alike zero c h = ap (content_meaning setting c (λ _. Val Blank)) (kept c (clean-parts c h).0)
   meanings_alike (suc n) c h =
       ap (content_meaning setting c (meaning_within setting before n)) (kept c (clean-parts c h).0)
-      ∙ content_alike setting c (content_at now c) (meaning_within setting before n) (meaning_within setting now n) (none_where _ _ (meanings_alike n) (named_cells now c) (clean-parts c h).1)
+      ∙ content_alike setting c (content_at now c) (meaning_within setting before n) (meaning_within setting now n) (none_where _ _ (meanings_alike n) (cell_precedents now c) (clean-parts c h).1)
 
   -- a cell from which no changed cell is reached keeps its meaning
   pub meaning-kept : (c : Cell) → reaches now changed (formula_count now) c ≡ false → meaning setting before c ≡ meaning setting now c

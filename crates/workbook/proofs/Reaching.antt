@@ -4,7 +4,7 @@ use Rattle.std.specs.List.{list_any}
 use Rattle.cell_refs.specs.declared.grid.Cell.{Cell}
 use Rattle.workbook.specs.declared.contents.Content.{Content}
 use Rattle.workbook.specs.declared.contents.Content.TheVariants as contents
-use Rattle.workbook.specs.Book.{IsInOrder, content_at, has_formula, named_by, is_formula, named_cells, formula_count}
+use Rattle.workbook.specs.Book.{IsInOrder, content_at, has_formula, content_precedents, is_formula, cell_precedents, formula_count}
 use Rattle.workbook.specs.Stale.{is_among, reaches}
 use Rattle.workbook.proofs.Settling.{settled}
 use Rattle.workbook.proofs.Walking.{any_leads, any_alike}
@@ -25,10 +25,10 @@ or_both false b c leads h = leads h
 -- what is reached in some steps is reached in one more
 pub reaches-more : (book : List (Cell × Content)) (changed : List Cell) (n : ℕ) (c : Cell) → reaches book changed n c ≡ true → reaches book changed (suc n) c ≡ true
 reaches-more book changed zero c h = or_left _ _ h
-reaches-more book changed (suc n) c h = or_both (is_among changed c) _ _ (any_leads _ _ (reaches-more book changed n) (named_cells book c)) h
+reaches-more book changed (suc n) c h = or_both (is_among changed c) _ _ (any_leads _ _ (reaches-more book changed n) (cell_precedents book c)) h
 
 -- a cell without a formula is reached only where it is changed itself
-no_steps : (content : Option Content) (home : ℕ) (p : Cell → Bool) → has_formula content ≡ false → list_any p (named_by content home) ≡ false
+no_steps : (content : Option Content) (home : ℕ) (p : Cell → Bool) → has_formula content ≡ false → list_any p (content_precedents content home) ≡ false
 no_steps None home p h = refl
 no_steps (Some (contents.Num n)) home p h = refl
 no_steps (Some (contents.Text t)) home p h = refl
@@ -78,7 +78,7 @@ module _ (book : List (Cell × Content)) (ordered : IsInOrder book) (changed : L
   ] refl (stays c)
 
   reaches-goes_on : (n : ℕ) → ((c : Cell) → reaches book changed (suc n) c ≡ reaches book changed n c) → (c : Cell) → reaches book changed (suc (suc n)) c ≡ reaches book changed (suc n) c
-  reaches-goes_on n stays c = ap (λ b. is_among changed c || b) (any_alike _ _ stays (named_cells book c))
+  reaches-goes_on n stays c = ap (λ b. is_among changed c || b) (any_alike _ _ stays (cell_precedents book c))
 
   unreached-goes_on : (n : ℕ) → ((c : Cell) → unreached (suc n) c ≡ unreached n c) → (c : Cell) → unreached (suc (suc n)) c ≡ unreached (suc n) c
   unfolding unreached
@@ -95,4 +95,4 @@ module _ (book : List (Cell × Content)) (ordered : IsInOrder book) (changed : L
   -- what is reached in any number of steps is reached in as many as there are formula cells
   pub reaches-within : (n : ℕ) (c : Cell) → reaches book changed n c ≡ true → reaches book changed (formula_count book) c ≡ true
   reaches-within zero c h = reaches-among (formula_count book) c h
-  reaches-within (suc n) c h = sym (reaches-enough c) ∙ or_both (is_among changed c) _ _ (any_leads _ _ (reaches-within n) (named_cells book c)) h
+  reaches-within (suc n) c h = sym (reaches-enough c) ∙ or_both (is_among changed c) _ _ (any_leads _ _ (reaches-within n) (cell_precedents book c)) h

@@ -24,7 +24,7 @@ use Rattle.formula_parse.specs.declared.nodes.Node.TheOpen as layer
 use Rattle.formula_parse.specs.declared.operators.Operator.{Operator}
 use Rattle.formula_parse.specs.Tree.{precedents}
 use Rattle.formula_parse.proofs.NodeLaws.{fold_number, fold_text, fold_error, fold_boolean, fold_reference, fold_area, fold_call, fold_parentheses, fold_negation, fold_chain, node_induction}
-use Rattle.functions.specs.Applied.{applied}
+use Rattle.functions.specs.Applied.{result_of}
 use Rattle.functions.specs.Functions.{function_named, arity_of}
 use Rattle.functions.specs.Inputs.{all_ok}
 use Rattle.functions.specs.Kinds.{is_error, is_na}
@@ -34,10 +34,10 @@ use Rattle.functions.specs.declared.functions.Function.{Function}
 use Rattle.functions.specs.declared.functions.Function.TheVariants as functions
 use Rattle.workbook.specs.declared.contents.Content.{Content}
 use Rattle.workbook.specs.declared.contents.Content.TheVariants as contents
-use Rattle.workbook.specs.Book.{content_at, has_formula, named_by, named_cells, formula_count}
+use Rattle.workbook.specs.Book.{content_at, has_formula, content_precedents, cell_precedents, formula_count}
 use Rattle.workbook.specs.Circular.{walks_on, is_circular}
-use Rattle.workbook.specs.Evaluation.{World, Answer, Val, Part, Argument, LONGEST_STRING, then_with, with_all, chain_value, negated_times, placed, answers_of, takes_area, area_input, with_input, with_inputs, branch, if_answer, unless_answer, chosen_at, chosen, choose_answer, function_answer, is_within, known_answer, topic_answer, rtd_answer, added_answer, call_answer, final_answer, failed, own_site, part_of, part_step, evaluated}
-use Rattle.workbook.specs.Meaning.{Setting, Meaning, Circ, Open, world_at, meant, value_in, is_open, content_meaning, meaning_within, meaning}
+use Rattle.workbook.specs.Evaluation.{World, Answer, Val, Part, Argument, LONGEST_STRING, then_with, with_all, chain_value, repeated_negation, arguments_of, answers_of, takes_area, area_input, with_input, with_inputs, branch, if_answer, unless_answer, chosen_at, choice_of, choose_answer, function_answer, is_within, known_answer, topic_answer, rtd_answer, added_answer, call_answer, final_answer, error_answer, own_site, part_of, part_step, answer_of}
+use Rattle.workbook.specs.Meaning.{Setting, Meaning, Circ, Open, world_at, meaning_of_answer, value_in, is_open, content_meaning, meaning_within, meaning}
 use Rattle.workbook.specs.Meaning as meanings
 use Rattle.workbook.proofs.Meanings.{none_where, shows_circle, shows_within}
 
@@ -102,15 +102,15 @@ place_valued (a ∷ options) zero each = each.0
 place_valued (a ∷ options) (suc place) each = place_valued options place each.1
 
 -- the argument that a number chooses
-chosen_valued : (index : Result ℤ ErrorKind) (options : List Argument) → AllByRecursion IsGiven options → IsValue (chosen index options)
+chosen_valued : (index : Result ℤ ErrorKind) (options : List Argument) → AllByRecursion IsGiven options → IsValue (choice_of index options)
 chosen_valued (Err kind) options each = (values.Error kind, refl)
 chosen_valued (Ok n) options each =
-    either_valued (int_lt (pos 0) n) (chosen_at (slice_get options (unsigned_abs n - 1))) (failed errors.Value) (place_valued options (unsigned_abs n - 1) each) (values.Error errors.Value, refl)
+    either_valued (int_lt (pos 0) n) (chosen_at (slice_get options (unsigned_abs n - 1))) (error_answer errors.Value) (place_valued options (unsigned_abs n - 1) each) (values.Error errors.Value, refl)
 
 -- CHOOSE
 choose_valued : (arguments : List Argument) → AllByRecursion IsGiven arguments → IsValue (choose_answer arguments)
 choose_valued [] each = (values.Error errors.Value, refl)
-choose_valued (index ∷ options) each = then_valued index.value (λ v. chosen (number_of v) options) each.0 (λ v. chosen_valued (number_of v) options each.1)
+choose_valued (index ∷ options) each = then_valued index.value (λ v. choice_of (number_of v) options) each.0 (λ v. chosen_valued (number_of v) options each.1)
 
 -- ---- formulas in a world that knows each topic and in which no name is registered
 module _ (world : World) (all_known : (topic : Topic) → (v : Value) × (world.known topic ≡ Some v)) (unregistered : (name : List ℕ) → world.registered name ≡ None) where
@@ -135,7 +135,7 @@ module _ (world : World) (all_known : (topic : Topic) → (v : Value) × (world.
   function_valued functions.IfError arguments each = unless_valued is_error arguments each
   function_valued functions.IfNa arguments each = unless_valued is_na arguments each
   function_valued functions.Choose arguments each = choose_valued arguments each
-  function_valued other arguments each = inputs_valued other 0 arguments (λ args. Val (applied other args)) each (λ args. (applied other args, refl))
+  function_valued other arguments each = inputs_valued other 0 arguments (λ args. Val (result_of other args)) each (λ args. (result_of other args, refl))
 
   -- a topic
   known_valued : (topic : Topic) → IsValue (known_answer world topic (world.known topic))
@@ -148,14 +148,14 @@ module _ (world : World) (all_known : (topic : Topic) → (v : Value) × (world.
   topic_valued (Ok (name ∷ [])) = (values.Error errors.Value, refl)
   topic_valued (Ok (name ∷ machine ∷ strings)) =
       let topic : Topic = record { server = name; strings = strings } in
-      either_valued (nat_lt 0 (length machine) || list_any (λ s. nat_lt LONGEST_STRING (length (chars s))) strings) (failed errors.Value) (cond (is_name name) (known_answer world topic (world.known topic)) (failed errors.Na))
+      either_valued (nat_lt 0 (length machine) || list_any (λ s. nat_lt LONGEST_STRING (length (chars s))) strings) (error_answer errors.Value) (cond (is_name name) (known_answer world topic (world.known topic)) (error_answer errors.Na))
       (values.Error errors.Value, refl)
-      (either_valued (is_name name) (known_answer world topic (world.known topic)) (failed errors.Na) (known_valued topic) (values.Error errors.Na, refl))
+      (either_valued (is_name name) (known_answer world topic (world.known topic)) (error_answer errors.Na) (known_valued topic) (values.Error errors.Na, refl))
 
   -- RTD
   rtd_valued : (arguments : List Argument) → AllByRecursion IsGiven arguments → IsValue (rtd_answer world arguments)
   rtd_valued arguments each =
-      either_valued (is_within (3, 18) (length arguments)) (with_all (map (λ a. a.value) arguments) (λ vs. topic_answer world (all_ok (map text_of vs)))) (failed errors.Value)
+      either_valued (is_within (3, 18) (length arguments)) (with_all (map (λ a. a.value) arguments) (λ vs. topic_answer world (all_ok (map text_of vs)))) (error_answer errors.Value)
       (all_valued (map (λ a. a.value) arguments) (λ vs. topic_answer world (all_ok (map text_of vs))) (given_answers arguments each) (λ vs. topic_valued (all_ok (map text_of vs))))
       (values.Error errors.Value, refl)
 
@@ -166,7 +166,7 @@ module _ (world : World) (all_known : (topic : Topic) → (v : Value) × (world.
   -- a call
   call_valued : (known : Option Function) (site : ℕ) (name : List ℕ) (arguments : List Argument) → AllByRecursion IsGiven arguments → IsValue (call_answer world known site name arguments)
   call_valued (Some function) site name arguments each =
-      either_valued (is_within (arity_of function) (length arguments)) (function_answer world function arguments) (failed errors.Value) (function_valued function arguments each) (values.Error errors.Value, refl)
+      either_valued (is_within (arity_of function) (length arguments)) (function_answer world function arguments) (error_answer errors.Value) (function_valued function arguments each) (values.Error errors.Value, refl)
   call_valued None site name arguments each =
       either_valued (bytes_eq name (codes "RTD")) (rtd_answer world arguments) (added_answer world (world.registered name) site name arguments) (rtd_valued arguments each) (added_valued site name arguments)
 
@@ -180,7 +180,7 @@ module _ (world : World) (all_known : (topic : Topic) → (v : Value) × (world.
   IsValued node = HasValues (part_of world node)
 
   -- the arguments that parts are
-  placed_valued : (before : ℕ) (parts : List Part) → AllByRecursion HasValues parts → AllByRecursion IsGiven (placed before parts)
+  placed_valued : (before : ℕ) (parts : List Part) → AllByRecursion HasValues parts → AllByRecursion IsGiven (arguments_of before parts)
   placed_valued before [] each = tt
   placed_valued before (part ∷ parts) each = (each.0 before, placed_valued (before + part.sites) parts each.1)
 
@@ -225,7 +225,7 @@ module _ (world : World) (all_known : (topic : Topic) → (v : Value) × (world.
   -- a call over its parts
   step_call : (name : Name) (parts : List Part) → AllByRecursion HasValues parts → HasValues (part_step world (layer.Call name parts))
   step_call name parts each before =
-      let arguments = placed (before + own_site name) parts in
+      let arguments = arguments_of (before + own_site name) parts in
       final_valued (call_answer world (function_named name) (suc before) name arguments)
       (call_valued (function_named name) (suc before) name arguments (placed_valued (before + own_site name) parts each))
 
@@ -239,7 +239,7 @@ module _ (world : World) (all_known : (topic : Topic) → (v : Value) × (world.
 
   -- an operand behind signs
   step_negation : (count : ℕ) (operand : Part) → HasValues operand → HasValues (part_step world (layer.Negation count operand))
-  step_negation count operand h before = then_valued (operand.value before) (λ v. Val (negated_times count v)) (h before) (λ v. (negated_times count v, refl))
+  step_negation count operand h before = then_valued (operand.value before) (λ v. Val (repeated_negation count v)) (h before) (λ v. (repeated_negation count v, refl))
 
   -- a negation
   valued_negation : (count : ℕ) (operand : Node) → IsValued operand → IsValued (nodes.Negation count operand)
@@ -260,7 +260,7 @@ module _ (world : World) (all_known : (topic : Topic) → (v : Value) × (world.
       valued_call valued_parentheses valued_negation valued_chain
 
   -- a formula
-  pub evaluated_valued : (tree : Node) → IsValue (evaluated world tree)
+  pub evaluated_valued : (tree : Node) → IsValue (answer_of world tree)
   evaluated_valued tree = final_valued ((part_of world tree).value 0) (valued_tree tree 0)
 
 -- ---- what cells mean
@@ -280,12 +280,12 @@ module _ (setting : Setting) (unregistered : (name : List ℕ) → setting.regis
   formula_valued cell f tree each =
       let found = evaluated_valued (world_at setting cell (λ d. value_in (f d))) (λ topic. (setting.snapshot topic, refl)) unregistered tree in (
         found.0,
-        ap (λ b. cond b Open (meant (evaluated (world_at setting cell (λ d. value_in (f d))) tree))) (none_open f (precedents tree cell.sheet) each)
-            ∙ ap meant found.1,
+        ap (λ b. cond b Open (meaning_of_answer (answer_of (world_at setting cell (λ d. value_in (f d))) tree))) (none_open f (precedents tree cell.sheet) each)
+            ∙ ap meaning_of_answer found.1,
       )
 
   -- a content over cells that mean values
-  content_valued : (cell : Cell) (content : Option Content) (f : Cell → Meaning) → AllByRecursion (λ d. IsMeantValue (f d)) (named_by content cell.sheet)
+  content_valued : (cell : Cell) (content : Option Content) (f : Cell → Meaning) → AllByRecursion (λ d. IsMeantValue (f d)) (content_precedents content cell.sheet)
       → IsMeantValue (content_meaning setting cell f content)
   content_valued cell None f each = (values.Blank, refl)
   content_valued cell (Some (contents.Num n)) f each = (values.Num n, refl)
@@ -307,7 +307,7 @@ module _ (setting : Setting) (unregistered : (name : List ℕ) → setting.regis
   within_valued : (book : List (Cell × Content)) (n : ℕ) (cell : Cell) → walks_on book n cell ≡ false → IsMeantValue (meaning_within setting book n cell)
   within_valued book zero cell h = constant_valued cell (content_at book cell) (λ d. meanings.Val values.Blank) h
   within_valued book (suc n) cell h =
-      content_valued cell (content_at book cell) (meaning_within setting book n) (none_where (walks_on book n) _ (within_valued book n) (named_cells book cell) h)
+      content_valued cell (content_at book cell) (meaning_within setting book n) (none_where (walks_on book n) _ (within_valued book n) (cell_precedents book cell) h)
 
   -- each cell is circular or means a value
   pub circular_or_valued : (book : List (Cell × Content)) (cell : Cell) → (meaning setting book cell ≡ Circ) ⊎ IsMeantValue (meaning setting book cell)

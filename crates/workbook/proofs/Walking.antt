@@ -5,7 +5,7 @@ use Rattle.std.specs.List.{list_any}
 use Rattle.cell_refs.specs.declared.grid.Cell.{Cell}
 use Rattle.workbook.specs.declared.contents.Content.{Content}
 use Rattle.workbook.specs.declared.contents.Content.TheVariants as contents
-use Rattle.workbook.specs.Book.{IsInOrder, content_at, has_formula, named_by, is_formula, named_cells, formula_count}
+use Rattle.workbook.specs.Book.{IsInOrder, content_at, has_formula, content_precedents, is_formula, cell_precedents, formula_count}
 use Rattle.workbook.specs.Circular.{walks_on, is_circular}
 use Rattle.workbook.proofs.Settling.{settled}
 
@@ -25,7 +25,7 @@ any_alike p q alike (x ∷ xs) = cc_or (alike x) (any_alike p q alike xs)
     cc_or e f = cc
 
 -- only a formula names cells
-only_formulas : (content : Option Content) (home : ℕ) (p : Cell → Bool) → list_any p (named_by content home) ≡ true → has_formula content ≡ true
+only_formulas : (content : Option Content) (home : ℕ) (p : Cell → Bool) → list_any p (content_precedents content home) ≡ true → has_formula content ≡ true
 only_formulas None home p h = h
 only_formulas (Some (contents.Num n)) home p h = h
 only_formulas (Some (contents.Text t)) home p h = h
@@ -40,16 +40,16 @@ walks-formula book (suc n) c h = only_formulas (content_at book c) c.sheet (walk
 -- a longer walk begins with a shorter one
 pub walks-shorter : (book : List (Cell × Content)) (n : ℕ) (c : Cell) → walks_on book (suc n) c ≡ true → walks_on book n c ≡ true
 walks-shorter book zero c h = walks-formula book 1 c h
-walks-shorter book (suc n) c h = any_leads _ _ (walks-shorter book n) (named_cells book c) h
+walks-shorter book (suc n) c h = any_leads _ _ (walks-shorter book n) (cell_precedents book c) h
 
 walks-goes_on : (book : List (Cell × Content)) (n : ℕ) → ((c : Cell) → walks_on book (suc n) c ≡ walks_on book n c) → (c : Cell) → walks_on book (suc (suc n)) c ≡ walks_on book (suc n) c
-walks-goes_on book n stays c = any_alike _ _ stays (named_cells book c)
+walks-goes_on book n stays c = any_alike _ _ stays (cell_precedents book c)
 
 -- a cell is circular exactly where it names a circular cell
-pub circular-names : (book : List (Cell × Content)) → IsInOrder book → (c : Cell) → is_circular book c ≡ list_any (is_circular book) (named_cells book c)
+pub circular-names : (book : List (Cell × Content)) → IsInOrder book → (c : Cell) → is_circular book c ≡ list_any (is_circular book) (cell_precedents book c)
 circular-names book ordered c = sym (settled book ordered (walks_on book) (walks-formula book) (walks-shorter book) (walks-goes_on book) c)
 
 -- from a circular cell there is a walk of every length
 pub circular-walks : (book : List (Cell × Content)) → IsInOrder book → (n : ℕ) (c : Cell) → is_circular book c ≡ true → walks_on book n c ≡ true
 circular-walks book ordered zero c h = walks-formula book (formula_count book) c h
-circular-walks book ordered (suc n) c h = any_leads _ _ (circular-walks book ordered n) (named_cells book c) (sym (circular-names book ordered c) ∙ h)
+circular-walks book ordered (suc n) c h = any_leads _ _ (circular-walks book ordered n) (cell_precedents book c) (sym (circular-names book ordered c) ∙ h)

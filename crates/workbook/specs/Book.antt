@@ -87,17 +87,17 @@ IsRefusal (Some limit) content fault = fault ≡ limit
 IsRefusal None content fault = fault ≡ faults.Memory content
 
 -- the cells that a content names, where it stands on the sheet home
-abbrev pub named_by : Option Content → ℕ → List Cell
-named_by None home = []
-named_by (Some (contents.Num n)) home = []
-named_by (Some (contents.Text t)) home = []
-named_by (Some (contents.Bool b)) home = []
-named_by (Some (contents.Error e)) home = []
-named_by (Some (contents.Formula tree)) home = precedents tree home
+abbrev pub content_precedents : Option Content → ℕ → List Cell
+content_precedents None home = []
+content_precedents (Some (contents.Num n)) home = []
+content_precedents (Some (contents.Text t)) home = []
+content_precedents (Some (contents.Bool b)) home = []
+content_precedents (Some (contents.Error e)) home = []
+content_precedents (Some (contents.Formula tree)) home = precedents tree home
 
 -- the cells that the formula of a cell names
-abbrev pub named_cells : List (Cell × Content) → Cell → List Cell
-named_cells book cell = named_by (content_at book cell) cell.sheet
+abbrev pub cell_precedents : List (Cell × Content) → Cell → List Cell
+cell_precedents book cell = content_precedents (content_at book cell) cell.sheet
 
 -- the part of a book after a cell, or all of it
 abbrev pub cells_after : Option Cell → List (Cell × Content) → List (Cell × Content)

@@ -14,8 +14,8 @@ use Rattle.cell_values.specs.declared.errors.ErrorKind.TheVariants as errors
 use Rattle.cell_values.specs.declared.topics.Topic.{Topic}
 use Rattle.cell_values.specs.declared.values.Value.{Value}
 use Rattle.cell_values.specs.declared.values.Value.TheVariants as values
-use Rattle.cell_values.specs.Coercion.{text_of, truth_of, joined}
-use Rattle.cell_values.specs.Comparison.{compared}
+use Rattle.cell_values.specs.Coercion.{text_of, truth_of, join_of}
+use Rattle.cell_values.specs.Comparison.{comparison_of}
 use Rattle.cell_values.specs.Name.{is_name}
 use Rattle.cell_values.specs.Value.{number_of, add_of, sub_of, mul_of, div_of, negate_of, final_of}
 use Rattle.formula_parse.specs.declared.nodes.Node.{Node}
@@ -29,7 +29,7 @@ use Rattle.functions.specs.declared.arguments.Arg.{Arg}
 use Rattle.functions.specs.declared.arguments.Arg.TheVariants as inputs
 use Rattle.functions.specs.declared.functions.Function.{Function}
 use Rattle.functions.specs.declared.functions.Function.TheVariants as functions
-use Rattle.functions.specs.Applied.{applied}
+use Rattle.functions.specs.Applied.{result_of}
 use Rattle.functions.specs.Functions.{function_named, arity_of}
 use Rattle.functions.specs.Inputs.{all_ok}
 use Rattle.functions.specs.Kinds.{is_error, is_na}
@@ -56,8 +56,8 @@ pub data Answer : Type 0 where
   Needs : Topic → Answer
 
 -- an error as an answer
-abbrev pub failed : ErrorKind → Answer
-failed kind = Val (values.Error kind)
+abbrev pub error_answer : ErrorKind → Answer
+error_answer kind = Val (values.Error kind)
 
 -- going on with a value, or stopping
 abbrev pub then_with : Answer → (Value → Answer) → Answer
@@ -77,29 +77,29 @@ final_answer (Asks site name args) = Asks site name args
 final_answer (Needs topic) = Needs topic
 
 -- an operator between two values
-abbrev pub operated : Operator → Value → Value → Value
-operated (operators.Compare op) a b = compared op a b
-operated operators.Join a b = joined a b
-operated operators.Add a b = add_of a b
-operated operators.Subtract a b = sub_of a b
-operated operators.Multiply a b = mul_of a b
-operated operators.Divide a b = div_of a b
+abbrev pub operation_of : Operator → Value → Value → Value
+operation_of (operators.Compare op) a b = comparison_of op a b
+operation_of operators.Join a b = join_of a b
+operation_of operators.Add a b = add_of a b
+operation_of operators.Subtract a b = sub_of a b
+operation_of operators.Multiply a b = mul_of a b
+operation_of operators.Divide a b = div_of a b
 
 -- the operators of a chain, from left to right
-abbrev pub operated_on : Value → List Operator → List Value → Value
-operated_on left [] vs = left
-operated_on left (op ∷ ops) [] = left
-operated_on left (op ∷ ops) (v ∷ vs) = operated_on (operated op left v) ops vs
+abbrev pub operations_of : Value → List Operator → List Value → Value
+operations_of left [] vs = left
+operations_of left (op ∷ ops) [] = left
+operations_of left (op ∷ ops) (v ∷ vs) = operations_of (operation_of op left v) ops vs
 
 -- the value of a chain
 abbrev pub chain_value : List Operator → List Value → Value
 chain_value ops [] = values.Blank
-chain_value ops (v ∷ vs) = operated_on v ops vs
+chain_value ops (v ∷ vs) = operations_of v ops vs
 
 -- a value negated so many times
-abbrev pub negated_times : ℕ → Value → Value
-negated_times zero v = v
-negated_times (suc count) v = negated_times count (negate_of v)
+abbrev pub repeated_negation : ℕ → Value → Value
+repeated_negation zero v = v
+repeated_negation (suc count) v = repeated_negation count (negate_of v)
 
 -- a part of a tree: how many sites stand in it, the area that it refers to where it is a reference or an area and nothing else, and its answer behind so many sites
 pub record Part : Type 0 where
@@ -118,9 +118,9 @@ sites_in [] = 0
 sites_in (part ∷ parts) = part.sites + sites_in parts
 
 -- the arguments that parts are, behind so many sites
-abbrev pub placed : ℕ → List Part → List Argument
-placed before [] = []
-placed before (part ∷ parts) = (record { area = part.area; value = part.value before }) ∷ placed (before + part.sites) parts
+abbrev pub arguments_of : ℕ → List Part → List Argument
+arguments_of before [] = []
+arguments_of before (part ∷ parts) = (record { area = part.area; value = part.value before }) ∷ arguments_of (before + part.sites) parts
 
 -- the answers of parts, behind so many sites
 abbrev pub answers_of : ℕ → List Part → List Answer
@@ -161,34 +161,34 @@ with_inputs world f place (argument ∷ arguments) next =
 
 -- IF: the second or the third argument by the first
 abbrev pub branch : Result Bool ErrorKind → Argument → List Argument → Answer
-branch (Err kind) met unmet = failed kind
+branch (Err kind) met unmet = error_answer kind
 branch (Ok true) met unmet = met.value
 branch (Ok false) met [] = Val (values.Bool false)
 branch (Ok false) met (unmet ∷ others) = unmet.value
 
 abbrev pub if_answer : List Argument → Answer
-if_answer [] = failed errors.Value
-if_answer (test ∷ []) = failed errors.Value
+if_answer [] = error_answer errors.Value
+if_answer (test ∷ []) = error_answer errors.Value
 if_answer (test ∷ met ∷ unmet) = then_with test.value (λ v. branch (truth_of v) met unmet)
 
 -- IFERROR and IFNA: the second argument where the first is such an error
 abbrev pub unless_answer : (Value → Bool) → List Argument → Answer
-unless_answer is_such [] = failed errors.Value
-unless_answer is_such (first ∷ []) = failed errors.Value
+unless_answer is_such [] = error_answer errors.Value
+unless_answer is_such (first ∷ []) = error_answer errors.Value
 unless_answer is_such (first ∷ second ∷ others) = then_with first.value (λ v. if is_such v then second.value else Val v)
 
 -- CHOOSE: the argument of this place among those behind the first
 abbrev pub chosen_at : Option Argument → Answer
-chosen_at None = failed errors.Value
+chosen_at None = error_answer errors.Value
 chosen_at (Some argument) = argument.value
 
-abbrev pub chosen : Result ℤ ErrorKind → List Argument → Answer
-chosen (Err kind) options = failed kind
-chosen (Ok n) options = if int_lt (pos 0) n then chosen_at (slice_get options (unsigned_abs n - 1)) else failed errors.Value
+abbrev pub choice_of : Result ℤ ErrorKind → List Argument → Answer
+choice_of (Err kind) options = error_answer kind
+choice_of (Ok n) options = if int_lt (pos 0) n then chosen_at (slice_get options (unsigned_abs n - 1)) else error_answer errors.Value
 
 abbrev pub choose_answer : List Argument → Answer
-choose_answer [] = failed errors.Value
-choose_answer (index ∷ options) = then_with index.value (λ v. chosen (number_of v) options)
+choose_answer [] = error_answer errors.Value
+choose_answer (index ∷ options) = then_with index.value (λ v. choice_of (number_of v) options)
 
 -- a built-in function
 abbrev pub function_answer : World → Function → List Argument → Answer
@@ -196,7 +196,7 @@ function_answer world functions.If arguments = if_answer arguments
 function_answer world functions.IfError arguments = unless_answer is_error arguments
 function_answer world functions.IfNa arguments = unless_answer is_na arguments
 function_answer world functions.Choose arguments = choose_answer arguments
-function_answer world f arguments = with_inputs world f 0 arguments (λ args. Val (applied f args))
+function_answer world f arguments = with_inputs world f 0 arguments (λ args. Val (result_of f args))
 
 -- a count within an arity
 abbrev pub is_within : ℕ × ℕ → ℕ → Bool
@@ -213,18 +213,18 @@ known_answer world topic (Some v) = Val v
 
 -- RTD by its texts: the server's name, the empty text and the topic's strings; a text that is no name is no server's
 abbrev pub topic_answer : World → Result (List (List ℕ)) ErrorKind → Answer
-topic_answer world (Err kind) = failed kind
-topic_answer world (Ok []) = failed errors.Value
-topic_answer world (Ok (name ∷ [])) = failed errors.Value
+topic_answer world (Err kind) = error_answer kind
+topic_answer world (Ok []) = error_answer errors.Value
+topic_answer world (Ok (name ∷ [])) = error_answer errors.Value
 topic_answer world (Ok (name ∷ machine ∷ strings)) =
-    if nat_lt 0 (length machine) || list_any (λ s. nat_lt LONGEST_STRING (length (chars s))) strings then failed errors.Value
-    else (if is_name name then known_answer world (record { server = name; strings = strings }) (world.known (record { server = name; strings = strings })) else failed errors.Na)
+    if nat_lt 0 (length machine) || list_any (λ s. nat_lt LONGEST_STRING (length (chars s))) strings then error_answer errors.Value
+    else (if is_name name then known_answer world (record { server = name; strings = strings }) (world.known (record { server = name; strings = strings })) else error_answer errors.Na)
 
 abbrev pub rtd_answer : World → List Argument → Answer
 rtd_answer world arguments =
     if is_within (3, 18) (length arguments)
     then with_all (map (λ a. a.value) arguments) (λ vs. topic_answer world (all_ok (map text_of vs)))
-    else failed errors.Value
+    else error_answer errors.Value
 
 -- the accepted value of a site, or the asked call
 abbrev pub accepted_answer : ℕ → List ℕ → List Value → Option Value → Answer
@@ -238,15 +238,15 @@ kind_answer world (kinds.Asynchronous place) site name args = accepted_answer si
 
 -- a name that is neither built in nor RTD
 abbrev pub added_answer : World → Option Registration → ℕ → List ℕ → List Argument → Answer
-added_answer world None site name arguments = failed errors.Name
+added_answer world None site name arguments = error_answer errors.Name
 added_answer world (Some registration) site name arguments =
     if length arguments == registration.arguments
     then with_all (map (λ a. a.value) arguments) (λ vs. kind_answer world registration.kind site name (map final_of vs))
-    else failed errors.Value
+    else error_answer errors.Value
 
 -- a call, before Blank is made 0
 abbrev pub call_answer : World → Option Function → ℕ → List ℕ → List Argument → Answer
-call_answer world (Some f) site name arguments = if is_within (arity_of f) (length arguments) then function_answer world f arguments else failed errors.Value
+call_answer world (Some f) site name arguments = if is_within (arity_of f) (length arguments) then function_answer world f arguments else error_answer errors.Value
 call_answer world None site name arguments = if bytes_eq name (codes "RTD") then rtd_answer world arguments else added_answer world (world.registered name) site name arguments
 
 -- 1 for a name that is neither built in nor RTD, else 0
@@ -264,14 +264,14 @@ part_step world (layer.Text t) = one_value (values.Text t)
 part_step world (layer.Error e) = one_value (values.Error e)
 part_step world (layer.Boolean b) = one_value (values.Bool b)
 part_step world (layer.Reference r) = record { sites = 0; area = Some (area_of r r world.home); value = λ before. Val (world.input (cell_at r world.home)) }
-part_step world (layer.Area a b) = record { sites = 0; area = Some (area_of a b world.home); value = λ before. failed errors.Value }
+part_step world (layer.Area a b) = record { sites = 0; area = Some (area_of a b world.home); value = λ before. error_answer errors.Value }
 part_step world (layer.Call name arguments) = record {
   sites = own_site name + sites_in arguments;
   area = None;
-  value = λ before. final_answer (call_answer world (function_named name) (suc before) name (placed (before + own_site name) arguments));
+  value = λ before. final_answer (call_answer world (function_named name) (suc before) name (arguments_of (before + own_site name) arguments));
 }
 part_step world (layer.Parentheses inner) = record { sites = inner.sites; area = None; value = inner.value }
-part_step world (layer.Negation count operand) = record { sites = operand.sites; area = None; value = λ before. then_with (operand.value before) (λ v. Val (negated_times count v)) }
+part_step world (layer.Negation count operand) = record { sites = operand.sites; area = None; value = λ before. then_with (operand.value before) (λ v. Val (repeated_negation count v)) }
 part_step world (layer.Chain operands ops) = record {
   sites = sites_in operands;
   area = None;
@@ -283,5 +283,5 @@ abbrev pub part_of : World → Node → Part
 part_of world = fold-Node Part (part_step world)
 
 -- the answer of a formula
-abbrev pub evaluated : World → Node → Answer
-evaluated world tree = final_answer ((part_of world tree).value 0)
+abbrev pub answer_of : World → Node → Answer
+answer_of world tree = final_answer ((part_of world tree).value 0)

@@ -40,8 +40,8 @@ abbrev pub next_name : List (List ℕ × Registration) → Option (List ℕ) →
 next_name functions after = find (is_past after) (keys_of functions)
 
 -- the functions of a map from a name's bytes to the name and its registration
-abbrev pub named : {Z : Type 0} → List (String Z × (List ℕ × Registration)) → List (List ℕ × Registration)
-named entries = map (λ e. (string_bytes e.0, e.1.1)) entries
+abbrev pub functions_of : {Z : Type 0} → List (String Z × (List ℕ × Registration)) → List (List ℕ × Registration)
+functions_of entries = map (λ e. (string_bytes e.0, e.1.1)) entries
 
 -- each name stands at its own bytes
 abbrev pub AreNamed : {Z : Type 0} → List (String Z × (List ℕ × Registration)) → Type 0

@@ -12,7 +12,7 @@ use Rattle.workbook.specs.declared.contents.Content.TheVariants as contents
 use Rattle.workbook.specs.Book.{content_at, formula_count}
 use Rattle.workbook.specs.Circular.{is_circular}
 use Rattle.workbook.specs.Evaluation as evaluation
-use Rattle.workbook.specs.Evaluation.{World, Answer, evaluated}
+use Rattle.workbook.specs.Evaluation.{World, Answer, answer_of}
 
 -- what the formulas of a book are evaluated over beside its cells
 pub record Setting : Type 0 where
@@ -44,10 +44,10 @@ pub data Meaning : Type 0 where
   Open : Meaning
 
 -- what an answer means; in a setting each topic has a value, so that none is needed
-abbrev pub meant : Answer → Meaning
-meant (evaluation.Val v) = Val v
-meant (evaluation.Asks site name args) = Asks site name args
-meant (evaluation.Needs topic) = Open
+abbrev pub meaning_of_answer : Answer → Meaning
+meaning_of_answer (evaluation.Val v) = Val v
+meaning_of_answer (evaluation.Asks site name args) = Asks site name args
+meaning_of_answer (evaluation.Needs topic) = Open
 
 -- the value of a meaning; Blank where it is none
 abbrev pub value_in : Meaning → Value
@@ -72,7 +72,7 @@ content_meaning setting cell meanings (Some (contents.Bool b)) = Val (values.Boo
 content_meaning setting cell meanings (Some (contents.Error e)) = Val (values.Error e)
 content_meaning setting cell meanings (Some (contents.Formula tree)) =
     if list_any (λ d. is_open (meanings d)) (precedents tree cell.sheet) then Open
-    else meant (evaluated (world_at setting cell (λ d. value_in (meanings d))) tree)
+    else meaning_of_answer (answer_of (world_at setting cell (λ d. value_in (meanings d))) tree)
 
 -- the meaning of a cell from which walks along formula cells have fewer steps than this
 abbrev pub meaning_within : Setting → List (Cell × Content) → ℕ → Cell → Meaning
@@ -84,12 +84,12 @@ abbrev pub meaning : Setting → List (Cell × Content) → Cell → Meaning
 meaning setting book cell = if is_circular book cell then Circ else meaning_within setting book (formula_count book) cell
 
 -- what a cell shows of its meaning: its value, or None where it has none
-abbrev pub shown : Meaning → Option Value
-shown (Val v) = Some v
-shown Circ = None
-shown (Asks site name args) = None
-shown Open = None
+abbrev pub shown_value : Meaning → Option Value
+shown_value (Val v) = Some v
+shown_value Circ = None
+shown_value (Asks site name args) = None
+shown_value Open = None
 
 -- the sheet of a book: what its cells show, in cell order
 abbrev pub sheet_of : Setting → List (Cell × Content) → List (Cell × Option Value)
-sheet_of setting book = map (λ e. (e.0, shown (meaning setting book e.0))) book
+sheet_of setting book = map (λ e. (e.0, shown_value (meaning setting book e.0))) book

@@ -4,7 +4,7 @@ use Rattle.std.specs.List.{list_any, count_by}
 use Rattle.cell_refs.specs.declared.grid.Cell.{Cell}
 use Rattle.cell_refs.specs.Cell.{same_cell}
 use Rattle.workbook.specs.declared.contents.Content.{Content}
-use Rattle.workbook.specs.Book.{is_formula, named_cells, formula_count}
+use Rattle.workbook.specs.Book.{is_formula, cell_precedents, formula_count}
 
 -- whether a cell is among those
 abbrev pub is_among : List Cell → Cell → Bool
@@ -13,7 +13,7 @@ is_among cells cell = list_any (same_cell cell) cells
 -- whether a changed cell is reached from the cell in at most this many steps, each from a cell to one that it names
 abbrev pub reaches : List (Cell × Content) → List Cell → ℕ → Cell → Bool
 reaches book changed zero cell = is_among changed cell
-reaches book changed (suc steps) cell = is_among changed cell || list_any (reaches book changed steps) (named_cells book cell)
+reaches book changed (suc steps) cell = is_among changed cell || list_any (reaches book changed steps) (cell_precedents book cell)
 
 -- whether a cell is stale: a formula cell from which a changed cell is reached
 abbrev pub is_stale : List (Cell × Content) → List Cell → Cell → Bool

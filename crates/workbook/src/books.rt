@@ -49,8 +49,10 @@ impl Model for Book {
 
     ghost view = { λ b. record { contents = b.contents.entries; functions = b.functions } };
 
-    ghost invariant = { λ b. (b.formulas ≡ formula_count b.contents.entries) × IsInOrder b.contents.entries
-        × (length b.contents.entries ≤ CELL_LIMIT) × (formula_count b.contents.entries ≤ FORMULA_LIMIT) };
+    ghost invariant = { λ b. (b.formulas ≡ formula_count b.contents.entries)
+        × IsInOrder b.contents.entries
+        × (length b.contents.entries ≤ CELL_LIMIT)
+        × (formula_count b.contents.entries ≤ FORMULA_LIMIT) };
 }
 
 impl Book {
@@ -102,8 +104,11 @@ impl Book {
 
     /// Gives the cell this content, in place of any that it has. A refusal gives the content back and changes nothing.
     pub fn set(&mut self, cell: Cell, content: Content) -> Result<(), SetFault>
-        ensures ok { OnOk result (self.new ≡ record self.old { contents = insert_entry cell_cmp self.old.contents cell content }) }
-        ensures contents { OnOk result (SetsContent self.old.contents self.new.contents cell content) }
+        ensures ok { OnOk result
+            (self.new
+            ≡ record self.old { contents = insert_entry cell_cmp self.old.contents cell content }) }
+        ensures contents { OnOk result
+            (SetsContent self.old.contents self.new.contents cell content) }
         ensures refused { OnErr result (self.new ≡ self.old) }
         ensures ordered { IsInOrder self.old.contents × IsInOrder self.new.contents }
 
@@ -127,8 +132,11 @@ impl Book {
     fn put(&mut self, cell: Cell, content: Content) -> Result<(), Content>
         requires cells { exceeds_cells self.old.contents cell ≡ false }
         requires formulas { exceeds_formulas self.old.contents cell content ≡ false }
-        ensures ok { OnOk result (self.new ≡ record self.old { contents = insert_entry cell_cmp self.old.contents cell content }) }
-        ensures contents { OnOk result (SetsContent self.old.contents self.new.contents cell content) }
+        ensures ok { OnOk result
+            (self.new
+            ≡ record self.old { contents = insert_entry cell_cmp self.old.contents cell content }) }
+        ensures contents { OnOk result
+            (SetsContent self.old.contents self.new.contents cell content) }
         ensures refused { IfErr result (λ back. (back ≡ content) × (self.new ≡ self.old)) }
         ensures ordered { IsInOrder self.old.contents × IsInOrder self.new.contents }
     {
@@ -175,7 +183,10 @@ impl Book {
     /// Takes the content of a cell away, and answers it; None where it has none. It takes no memory.
     pub fn clear(&mut self, cell: Cell) -> Option<Content>
         ensures content { result ≡ content_at self.old.contents cell }
-        ensures cleared { self.new ≡ record self.old { contents = remove_entry (same_cell cell) self.old.contents } }
+        ensures cleared { self.new ≡ record self.old {
+          contents = remove_entry
+              (same_cell cell) self.old.contents;
+        } }
         ensures contents { PutsContent self.old.contents self.new.contents cell None }
         ensures ordered { IsInOrder self.old.contents × IsInOrder self.new.contents }
     {
@@ -245,7 +256,8 @@ impl Book {
 
     /// The least registered name by its bytes among those greater than `after`, or among all.
     pub fn next_name(&self, after: Option<&str>) -> Option<&Name>
-        ensures next { option_copied result ≡ next_name self.now.functions (option_copied after.entry) }
+        ensures next { option_copied result ≡ next_name self.now.functions
+            (option_copied after.entry) }
         ensures ordered { AreInOrder self.now.functions }
     {
         self.functions.next_name(after)

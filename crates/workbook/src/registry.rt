@@ -19,13 +19,14 @@ pub struct Functions {
 impl Model for Functions {
     ghost use Rattle.std.specs.Prelude.{List, ℕ};
     ghost use Rattle.addin_types.specs.declared.registrations.Registration.{Registration};
-    ghost use Rattle.workbook.specs.Functions.{AreInOrder, AreNamed, named};
+    ghost use Rattle.workbook.specs.Functions.{AreInOrder, AreNamed, functions_of};
 
     ghost Value = { List (List ℕ × Registration) };
 
-    ghost view = { λ f. named f.entries.entries };
+    ghost view = { λ f. functions_of f.entries.entries };
 
-    ghost invariant = { λ f. AreNamed f.entries.entries × AreInOrder (named f.entries.entries) };
+    ghost invariant = { λ f. AreNamed f.entries.entries
+        × AreInOrder (functions_of f.entries.entries) };
 }
 
 impl Functions {
@@ -81,7 +82,8 @@ fn insert(
     key: String,
     entry: (Name, Registration),
 ) -> Result<(), Memory>
-    ensures ok { OnOk result (entries.new.entries ≡ insert_entry key_cmp entries.old.entries key entry) }
+    ensures ok { OnOk result (entries.new.entries
+        ≡ insert_entry key_cmp entries.old.entries key entry) }
     ensures refused { OnErr result (entries.new.entries ≡ entries.old.entries) }
     ensures ordered { IsOrdered key_cmp entries.new }
 {
@@ -93,7 +95,8 @@ fn insert(
 
 /// Whether a name is greater than `after`, or no name is given.
 fn is_past(after: Option<&str>, name: &str) -> bool
-    ensures { result ≡ Rattle.workbook.specs.Functions.is_past (option_copied after.entry) name.now }
+    ensures { result ≡ Rattle.workbook.specs.Functions.is_past
+        (option_copied after.entry) name.now }
 {
     match after {
         None => true,

@@ -114,7 +114,8 @@ fn sheet_len(text: &[u8]) -> usize
 /// Whether digits are the number of a sheet.
 fn is_sheet(digits: &[u8]) -> bool
     requires { IsTrue (all_ascii_digits digits.now) }
-    ensures { result ≡ (nat_lt 48 (slice_index digits.now 0) && nat_le (digits_value 10 digits.now) 64) }
+    ensures { result ≡ (nat_lt 48 (slice_index digits.now 0) && nat_le
+        (digits_value 10 digits.now) 64) }
 {
     match digits.first() {
         Some(first) => b'0' < *first && value(digits) <= SHEETS,

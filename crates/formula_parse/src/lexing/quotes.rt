@@ -26,7 +26,8 @@ pub(super) fn text_behind(alloc: Global, rest: &str) -> Result<Found, ParseFault
 
 /// The content up to the closing `"`, each doubled one made one, and the length up to behind it.
 fn content(alloc: Global, text: &str) -> Result<Option<(String, usize)>, AllocError>
-    ensures { IfOk result (λ found. option_map (λ x. (string_bytes x.0, x.1)) found ≡ content_at text.now) }
+    ensures { IfOk result (λ found. option_map (λ x. (string_bytes x.0, x.1)) found
+        ≡ content_at text.now) }
 {
     let mut content = String::new(alloc);
     let mut rest = text;

@@ -104,7 +104,8 @@ fn is_name_byte(byte: u8) -> bool
 
 /// The name that bytes are, in upper case.
 fn name(alloc: Global, word: &[u8]) -> Result<Option<Name>, AllocError>
-    ensures { IfOk result (λ name. name ≡ (if is_name word.now then Some (capitals word.now) else None)) }
+    ensures { IfOk result (λ name. name ≡ (if is_name word.now then Some (capitals word.now)
+        else None)) }
 {
     let Ok(word) = std::str::from_utf8(word) else {
         return Ok(None);

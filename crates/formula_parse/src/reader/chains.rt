@@ -1,6 +1,6 @@
 ghost use Rattle.std.specs.Prelude.{◌≡◌, [], ◌++◌, ◌∷◌, IfOk};
 ghost use Rattle.formula_parse.specs.Grammar.{place_of};
-ghost use Rattle.formula_parse.specs.Reading.{place_of_chain, closed, bound, finished, is_tighter, joined, chained, negated};
+ghost use Rattle.formula_parse.specs.Reading.{place_of_chain, chain_node, operand_in_chains, tree_of_chains, is_tighter, chains_behind, chains_with, signed_node};
 
 use super::super::nodes::Node;
 use super::super::operators::Operator;
@@ -11,7 +11,7 @@ use std::alloc::{AllocError, Global};
 
 /// An operand behind signs of which so many are `-`.
 pub(super) fn negated(alloc: Global, count: u32, operand: Node) -> Result<Node, AllocError>
-    ensures { IfOk result (λ node. node ≡ negated count operand) }
+    ensures { IfOk result (λ node. node ≡ signed_node count operand) }
 {
     if count == 0 {
         return Ok(operand);
@@ -25,7 +25,8 @@ pub(super) fn negated(alloc: Global, count: u32, operand: Node) -> Result<Node, 
 impl OpenChain {
     /// A chain that begins with an operand and the operator behind it.
     fn new(alloc: Global, operand: Node, operator: Operator) -> Result<OpenChain, AllocError>
-        ensures { IfOk result (λ chain. (chain.operands ≡ operand ∷ []) × (chain.operators ≡ operator ∷ [])) }
+        ensures { IfOk result (λ chain. (chain.operands ≡ operand ∷ [])
+            × (chain.operators ≡ operator ∷ [])) }
     {
         let mut operands = Items::new(alloc);
         operands.push(operand)?;
@@ -49,7 +50,7 @@ impl OpenChain {
 
     /// The chain with its last operand.
     fn closed(self, last: Node) -> Result<Node, AllocError>
-        ensures { IfOk result (λ node. node ≡ closed self last) }
+        ensures { IfOk result (λ node. node ≡ chain_node self last) }
     {
         let OpenChain {
             mut operands,
@@ -70,7 +71,7 @@ fn bound(
     operand: Node,
     chains: Stack<OpenChain>,
 ) -> Result<(Node, Stack<OpenChain>), AllocError>
-    ensures { IfOk result (λ parts. parts ≡ bound place operand chains) }
+    ensures { IfOk result (λ parts. parts ≡ operand_in_chains place operand chains) }
 {
     let mut operand = operand;
     let mut chains = chains;
@@ -96,7 +97,7 @@ fn is_tighter(chains: &Stack<OpenChain>, place: usize) -> bool
 
 /// The operand with all chains closed round it.
 pub(super) fn finished(operand: Node, chains: Stack<OpenChain>) -> Result<Node, AllocError>
-    ensures { IfOk result (λ node. node ≡ finished operand chains) }
+    ensures { IfOk result (λ node. node ≡ tree_of_chains operand chains) }
 {
     let mut operand = operand;
     let mut chains = chains;
@@ -114,7 +115,7 @@ pub(super) fn joined(
     operator: Operator,
     chains: Stack<OpenChain>,
 ) -> Result<Stack<OpenChain>, AllocError>
-    ensures { IfOk result (λ next. next ≡ joined operand operator chains) }
+    ensures { IfOk result (λ next. next ≡ chains_behind operand operator chains) }
 {
     let (operand, chains) = bound(alloc, operator.place(), operand, chains)?;
     match chains.split() {
@@ -131,7 +132,7 @@ fn chained(
     chain: OpenChain,
     rest: Stack<OpenChain>,
 ) -> Result<Stack<OpenChain>, AllocError>
-    ensures { IfOk result (λ next. next ≡ chained operator (operand, chain ∷ rest)) }
+    ensures { IfOk result (λ next. next ≡ chains_with operator (operand, chain ∷ rest)) }
 {
     if chain.place() != operator.place() {
         return rest

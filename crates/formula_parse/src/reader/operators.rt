@@ -1,5 +1,5 @@
 ghost use Rattle.std.specs.Prelude.{◌≡◌, IfOk};
-ghost use Rattle.formula_parse.specs.Reading.{after_turn, operator_turn, close_turn, comma_turn, closing, with_argument, ended, whole};
+ghost use Rattle.formula_parse.specs.Reading.{after_turn, operator_turn, close_turn, comma_turn, closing, with_argument, tree_at_end, whole_tree};
 
 use super::super::nodes::Node;
 use super::super::operators::Operator;
@@ -117,7 +117,7 @@ fn with_argument(opened: Opened, last: Node) -> Result<Option<Opened>, AllocErro
 
 /// The formula's tree, where it may end in this phase and these frames.
 pub(super) fn ended(phase: Phase, frames: Stack<Frame>) -> Result<Option<Node>, AllocError>
-    ensures { IfOk result (λ tree. tree ≡ ended phase frames) }
+    ensures { IfOk result (λ tree. tree ≡ tree_at_end phase frames) }
 {
     let Phase::After(operand) = phase else {
         return Ok(None);

@@ -20,10 +20,10 @@ use Rattle.cell_eval.proofs.Taking.{TakenAhead, taken_cells, taken_value, taken_
 use Rattle.cell_eval.proofs.Weights.{weight, weights, weight_call, weight_chain, weight_parentheses, weight_negation, weight_at}
 use Rattle.formula_parse.specs.declared.nodes.Node.{Node}
 use Rattle.formula_parse.specs.Tree.{site_count}
-use Rattle.functions.specs.Applied.{applied}
+use Rattle.functions.specs.Applied.{result_of}
 use Rattle.functions.specs.Inputs.{IsInput}
 use Rattle.functions.specs.Functions.{arity_of, function_named}
-use Rattle.workbook.specs.Evaluation.{Val, with_all, operated_on, is_within, own_site, final_answer, negated_times, then_with}
+use Rattle.workbook.specs.Evaluation.{Val, with_all, operations_of, is_within, own_site, final_answer, repeated_negation, then_with}
 use Rattle.cell_eval.proofs.evaluation.+part.Goals as goal
 use Rattle.cell_eval.proofs.evaluation.+part.Goals.{call-then-ne, call-else-ne}
 
@@ -321,7 +321,7 @@ built_in-returns-in_ok-apply-in_default g t c =
     let ns = c.args.arguments.now in
     let inside : is_within (arity_of c.args.function) (length ns) ≡ true = sym c.takes_count.ensures ∙ c.if-not-takes_count.false in
     record {
-      value = built_in_applied world c.args.function ns c.args.sites.now c.in_ok-args-in_default.args.items inside c.in_default.not-If c.in_default.not-IfError c.in_default.not-IfNa c.in_default.not-Choose c.in_ok-args-in_default.ensures.args ∙ ap (λ args. Val (applied c.args.function args)) (sym c.as_slice.ensures.value) ∙ ap Val (sym c.in_ok-apply-in_default.ensures);
+      value = built_in_applied world c.args.function ns c.args.sites.now c.in_ok-args-in_default.args.items inside c.in_default.not-If c.in_default.not-IfError c.in_default.not-IfNa c.in_default.not-Choose c.in_ok-args-in_default.ensures.args ∙ ap (λ args. Val (result_of c.args.function args)) (sym c.as_slice.ensures.value) ∙ ap Val (sym c.in_ok-apply-in_default.ensures);
       sites = c.in_ok-args-in_default.ensures.sites;
     }
 
@@ -462,7 +462,7 @@ chain-loop-i-preserved g t c =
     record {
       ahead = c.loop-i.invariant.ahead
           ∙ chain_goes world others ops i x c.loop-i.sites there c.loop-i.value c.in_ok-right.right lt c.index-others-i.is c.in_ok-right.ensures.value done
-          ∙ ap (λ w. with_all (answers_at world (drop (i + 1) others) there) (λ vs. Val (operated_on w (drop (i + 1) ops) vs))) (sym c.in_ok-value-2.ensures);
+          ∙ ap (λ w. with_all (answers_at world (drop (i + 1) others) there) (λ vs. Val (operations_of w (drop (i + 1) ops) vs))) (sym c.in_ok-value-2.ensures);
       count = omega arith;
     }
 
@@ -710,13 +710,13 @@ part-returns-in_err-value-in-Negation-clause-value g t c =
     let world = world_of g.F.AddIns.answer c.args.job.now in
     let at = λ (n : Node). answer_at world n c.args.sites.now in
     let p = err_from_is_err_and c.from_residual-in_err-value-in-Negation.result c.from_residual-in_err-value-in-Negation.ensures.1 in
-    rw (p.1, p.2) (Halts-same _ _ _ (ap at c.in-Negation.is ∙ answer_negation world c.in-Negation.count c.in-Negation.operand c.args.sites.now ∙ ap (λ n. then_with (answer_at world n c.args.sites.now) (λ v. Val (negated_times c.in-Negation.count v))) (sym c.get-in-Negation.ensures)) (Halts-then _ _ (λ v. Val (negated_times c.in-Negation.count v)) c.in_err-value-in-Negation.ensures.value))
+    rw (p.1, p.2) (Halts-same _ _ _ (ap at c.in-Negation.is ∙ answer_negation world c.in-Negation.count c.in-Negation.operand c.args.sites.now ∙ ap (λ n. then_with (answer_at world n c.args.sites.now) (λ v. Val (repeated_negation c.in-Negation.count v))) (sym c.get-in-Negation.ensures)) (Halts-then _ _ (λ v. Val (repeated_negation c.in-Negation.count v)) c.in_err-value-in-Negation.ensures.value))
 
 pub part-returns-in_ok-value-in-Negation-clause-value : goal.part-returns-in_ok-value-in-Negation-clause-value
 part-returns-in_ok-value-in-Negation-clause-value g t c =
     let world = world_of g.F.AddIns.answer c.args.job.now in
     let at = λ (n : Node). answer_at world n c.args.sites.now in
-    (ap at c.in-Negation.is ∙ answer_negation world c.in-Negation.count c.in-Negation.operand c.args.sites.now ∙ ap (λ n. then_with (answer_at world n c.args.sites.now) (λ v. Val (negated_times c.in-Negation.count v))) (sym c.get-in-Negation.ensures)) ∙ ap (λ a. then_with a (λ v. Val (negated_times c.in-Negation.count v))) c.in_ok-value-in-Negation.ensures.value ∙ ap Val (sym c.negated.ensures)
+    (ap at c.in-Negation.is ∙ answer_negation world c.in-Negation.count c.in-Negation.operand c.args.sites.now ∙ ap (λ n. then_with (answer_at world n c.args.sites.now) (λ v. Val (repeated_negation c.in-Negation.count v))) (sym c.get-in-Negation.ensures)) ∙ ap (λ a. then_with a (λ v. Val (repeated_negation c.in-Negation.count v))) c.in_ok-value-in-Negation.ensures.value ∙ ap Val (sym c.negated.ensures)
 
 pub part-returns-in-Parentheses-clause-value : goal.part-returns-in-Parentheses-clause-value
 part-returns-in-Parentheses-clause-value g t c =

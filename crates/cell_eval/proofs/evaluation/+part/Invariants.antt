@@ -1,6 +1,6 @@
 use Rattle.std.proofs.Common.{◌≡◌, ◌+◌, All, drop, length}
 use Rattle.functions.specs.Inputs.{IsInput}
-use Rattle.workbook.specs.Evaluation.{Val, with_all, operated_on}
+use Rattle.workbook.specs.Evaluation.{Val, with_all, operations_of}
 use Rattle.cell_eval.specs.Jobs.{world_of}
 use Rattle.cell_eval.specs.Steps.{answers_at, arguments_at, chain_at, sites_among}
 use Rattle.cell_eval.proofs.Halting.{Ahead}
@@ -52,7 +52,7 @@ abbrev pub invariant-chain-loop-i : goal.invariant-chain-loop-i
 invariant-chain-loop-i g l =
     let world = world_of g.F.AddIns.answer l.job in
     record {
-      ahead : chain_at world l.operands l.operators l.fn.sites ≡ with_all (answers_at world (drop l.i l.others) l.sites) (λ vs. Val (operated_on l.value (drop l.i l.operators) vs));
+      ahead : chain_at world l.operands l.operators l.fn.sites ≡ with_all (answers_at world (drop l.i l.others) l.sites) (λ vs. Val (operations_of l.value (drop l.i l.operators) vs));
       count : l.sites + sites_among (drop l.i l.others) ≡ l.fn.sites + sites_among l.operands;
     }
 

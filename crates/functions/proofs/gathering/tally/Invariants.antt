@@ -1,11 +1,11 @@
 use Rattle.std.proofs.Common.{◌≡◌, ◌+◌, ◌*◌, ◌≤◌, ◌^◌, length, All}
-use Rattle.functions.specs.Inputs.{folded, IsInput}
-use Rattle.functions.specs.Gathering.{gathered}
+use Rattle.functions.specs.Inputs.{fold_of_values, IsInput}
+use Rattle.functions.specs.Gathering.{numbers_or_error}
 use Rattle.functions.proofs.gathering.tally.Given as goal
 
 abbrev pub invariant-loop-left : goal.invariant-loop-left
 invariant-loop-left g l = record {
-  numbers : folded g.T.Tally.step l.tally (gathered l.left) ≡ folded g.T.Tally.step l.fn.start (gathered l.fn.args);
+  numbers : fold_of_values g.T.Tally.step l.tally (numbers_or_error l.left) ≡ fold_of_values g.T.Tally.step l.fn.start (numbers_or_error l.fn.args);
   each : All IsInput l.left;
   room : g.T.Tally.size l.tally + 2 ^ 79 * length l.left ≤ 2 ^ 88;
 }

@@ -1,9 +1,9 @@
 use Rattle.std.proofs.Common.{◌≡◌, length}
-use Rattle.formula_parse.specs.Reading.{finished}
+use Rattle.formula_parse.specs.Reading.{tree_of_chains}
 use Rattle.formula_parse.proofs.reader.chains.finished.Given as goal
 
 abbrev pub invariant-loop-chain : goal.invariant-loop-chain
-invariant-loop-chain l = finished l.operand l.chains ≡ finished l.fn.operand l.fn.chains
+invariant-loop-chain l = tree_of_chains l.operand l.chains ≡ tree_of_chains l.fn.operand l.fn.chains
 
 abbrev pub decreases-loop-chain : goal.decreases-loop-chain
 decreases-loop-chain l = length l.chains

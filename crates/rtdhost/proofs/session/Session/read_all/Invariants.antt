@@ -1,5 +1,5 @@
 use Rattle.std.proofs.Common.{◌≡◌, ◌-◌, ◌≤◌, ℕ, List, Option, None}
-use Rattle.rtdhost.specs.Reading.{consumed}
+use Rattle.rtdhost.specs.Reading.{given_out_count}
 use Rattle.rtdhost.specs.Session.{IsBounded, HasAnswered}
 use Rattle.rtdhost.proofs.session.Session.read_all.Given as goal
 
@@ -15,4 +15,4 @@ invariant-loop g l =
     × (g.O.Sink.faults l.fn.out ≤ g.O.Sink.faults l.out)
 
 abbrev pub decreases-loop : goal.decreases-loop
-decreases-loop g l = 67108864 - consumed l.self.lines
+decreases-loop g l = 67108864 - given_out_count l.self.lines

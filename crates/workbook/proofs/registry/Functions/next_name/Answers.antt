@@ -1,12 +1,12 @@
 use Rattle.std.proofs.Common.{◌≡◌, ap, rules, sym, subst, ◌∙◌, option_copied}
-use Rattle.workbook.specs.Functions.{AreNamed, is_past, named, next_name}
+use Rattle.workbook.specs.Functions.{AreNamed, is_past, functions_of, next_name}
 use Rattle.workbook.proofs.FunctionLaws.{next-here, next-later, next-none}
 use Rattle.workbook.proofs.registry.Functions.next_name.Goals as goal
 
 pub loop-key-init : goal.loop-key-init
 loop-key-init c =
     let whole : c.into_iter-key-iterator.result ≡ c.self.inside.entries.entries = search rules in (
-      ap (λ es. next_name (named es) (option_copied c.args.after)) whole ∙ ap (λ fs. next_name fs (option_copied c.args.after)) c.self.view_is,
+      ap (λ es. next_name (functions_of es) (option_copied c.args.after)) whole ∙ ap (λ fs. next_name fs (option_copied c.args.after)) c.self.view_is,
       subst AreNamed (sym whole) c.self.invariant.0,
     )
 
