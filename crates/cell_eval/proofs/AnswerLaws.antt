@@ -9,7 +9,7 @@ use Rattle.cell_values.specs.declared.texts.Text.{Text}
 use Rattle.cell_values.specs.declared.values.Value.TheVariants as values
 use Rattle.cell_eval.specs.Steps.{answer_at, answers_at, arguments_at, area_at, call_at, chain_at}
 use Rattle.cell_eval.proofs.SiteLaws.{part_sites}
-use Rattle.formula_parse.proofs.NodeLaws.{fold_number, fold_text, fold_error, fold_boolean, fold_reference, fold_area, fold_call, fold_parentheses, fold_negation, fold_chain}
+use Rattle.formula_parse.proofs.PublicLaws.{fold_number, fold_text, fold_error, fold_boolean, fold_reference, fold_area, fold_call, fold_parentheses, fold_negation, fold_chain}
 use Rattle.formula_parse.specs.declared.nodes.Node.{Node}
 use Rattle.formula_parse.specs.declared.nodes.Node.TheVariants as nodes
 use Rattle.formula_parse.specs.declared.operators.Operator.{Operator}

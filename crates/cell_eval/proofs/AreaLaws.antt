@@ -6,7 +6,7 @@ use Rattle.cell_refs.specs.declared.areas.Area.{Area}
 use Rattle.cell_refs.specs.declared.references.RefText.{RefText}
 use Rattle.cell_refs.specs.Area.{area_of, size_of}
 use Rattle.cell_eval.specs.Steps.{NamesSmallAreas, area_at}
-use Rattle.formula_parse.proofs.NodeLaws.{fold_number, fold_text, fold_error, fold_boolean, fold_reference, fold_area, fold_call, fold_parentheses, fold_negation, fold_chain, node_induction}
+use Rattle.formula_parse.proofs.PublicLaws.{fold_number, fold_text, fold_error, fold_boolean, fold_reference, fold_area, fold_call, fold_parentheses, fold_negation, fold_chain, node_induction}
 use Rattle.formula_parse.specs.declared.nodes.Node.{Node}
 use Rattle.formula_parse.specs.declared.nodes.Node.TheVariants as nodes
 use Rattle.formula_parse.specs.Tree.{areas_named, areas_step}

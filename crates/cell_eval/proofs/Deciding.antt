@@ -11,7 +11,7 @@ use Rattle.cell_eval.specs.Steps.{answer_at, answers_at, arguments_at, area_at, 
 use Rattle.cell_eval.proofs.AnswerLaws.{answer_number, answer_text, answer_error, answer_boolean, answer_reference, answer_area, answer_call, answer_parentheses, answer_negation, answer_chain, answers_none, answers_first, arguments_none, arguments_first}
 use Rattle.cell_eval.proofs.DecidedCalls.{Open, closed, knowing, decides_call_of}
 use Rattle.cell_eval.proofs.Decisions.{Known, Decision, run, Decides, decides_value, decides_same, decides_then, decides_all, decides_final}
-use Rattle.formula_parse.proofs.NodeLaws.{fold_number, fold_text, fold_error, fold_boolean, fold_reference, fold_area, fold_call, fold_parentheses, fold_negation, fold_chain, node_induction}
+use Rattle.formula_parse.proofs.PublicLaws.{fold_number, fold_text, fold_error, fold_boolean, fold_reference, fold_area, fold_call, fold_parentheses, fold_negation, fold_chain, node_induction}
 use Rattle.formula_parse.specs.declared.nodes.Node.{Node}
 use Rattle.formula_parse.specs.declared.nodes.Node.TheVariants as nodes
 use Rattle.formula_parse.specs.declared.operators.Operator.{Operator}

@@ -7,7 +7,7 @@ use Rattle.cell_refs.specs.Area.{size_of}
 use Rattle.cell_values.specs.declared.names.Name.{Name}
 use Rattle.cell_eval.specs.Steps.{NamesSmallAreas, sites_among}
 use Rattle.cell_eval.proofs.Weights.{weight, weights, weights_first}
-use Rattle.formula_parse.proofs.NodeLaws.{fold_call, fold_parentheses, fold_negation, fold_chain}
+use Rattle.formula_parse.proofs.PublicLaws.{fold_call, fold_parentheses, fold_negation, fold_chain}
 use Rattle.formula_parse.specs.declared.nodes.Node.{Node}
 use Rattle.formula_parse.specs.declared.nodes.Node.TheVariants as nodes
 use Rattle.formula_parse.specs.declared.operators.Operator.{Operator}

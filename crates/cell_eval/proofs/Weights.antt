@@ -1,7 +1,7 @@
 -- How much there is to evaluate below a part of a tree: a number that falls with each call of the recursion.
 use Rattle.std.proofs.Common.{◌≡◌, ℕ, zero, suc, ◌+◌, ◌<◌, List, [], ◌∷◌, map, length, get_or, refl, ap, ◌∙◌, arith}
 use Rattle.cell_values.specs.declared.names.Name.{Name}
-use Rattle.formula_parse.proofs.NodeLaws.{fold_call, fold_parentheses, fold_negation, fold_chain}
+use Rattle.formula_parse.proofs.PublicLaws.{fold_call, fold_parentheses, fold_negation, fold_chain}
 use Rattle.formula_parse.specs.declared.nodes.Node.{Node}
 use Rattle.formula_parse.specs.declared.nodes.Node.TheFolds.{fold-Node}
 use Rattle.formula_parse.specs.declared.nodes.Node.TheOpen.{Node-F}

@@ -1,7 +1,8 @@
 -- Laws of values, and lemmas on digits and texts.
-pub mod ComparisonLaws
-pub mod DigitFacts
-pub mod OperatorLaws
-pub mod Readings
-pub mod TextFacts
-pub mod WordLaws
+mod ComparisonLaws
+mod DigitFacts
+mod OperatorLaws
+mod Readings
+mod TextFacts
+mod WordLaws
+pub mod PublicLaws

@@ -9,10 +9,10 @@ use Rattle.std.specs.Char.{is_ascii_digit, is_ascii_control, is_ascii_alphabetic
 use Rattle.std.specs.List.{list_any, find}
 use Rattle.std.specs.Option.{option_map}
 use Rattle.std.specs.Str.{bytes_eq}
-use Rattle.cell_refs.proofs.Front.{stands_from_read, stands_long}
+use Rattle.cell_refs.proofs.PublicLaws.{stands_from_read, stands_long}
 use Rattle.cell_refs.specs.declared.references.RefText.{RefText}
 use Rattle.cell_refs.specs.Written.{reference_at, capitals}
-use Rattle.cell_values.proofs.DigitFacts.{both_true}
+use Rattle.cell_values.proofs.PublicLaws.{both_true}
 use Rattle.cell_values.specs.declared.errors.ErrorKind.{ErrorKind}
 use Rattle.cell_values.specs.declared.errors.ErrorKind.TheVariants as errors
 use Rattle.cell_values.specs.Error.{error_word}

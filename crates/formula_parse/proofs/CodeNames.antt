@@ -9,7 +9,7 @@ use Rattle.std.specs.List.{list_all}
 use Rattle.std.specs.Str.{bytes_eq, IsUtf8}
 use Rattle.cell_refs.specs.Written.{capitals}
 use Rattle.cell_values.specs.Name.{is_name, is_name_byte}
-use Rattle.cell_values.proofs.DigitFacts.{both_true}
+use Rattle.cell_values.proofs.PublicLaws.{both_true}
 use Rattle.formula_parse.specs.declared.tokens.Token.TheVariants as tokens
 use Rattle.formula_parse.specs.Lexing.{word_at, word_found, passes_at}
 

@@ -7,7 +7,7 @@ use Rattle.std.specs.Str.{bytes_eq}
 use Rattle.std.specs.Str.Parse.{digits_value}
 use Rattle.cell_refs.specs.Reading.{rest_after, number_at, sheet_number_at, sheet_at}
 use Rattle.cell_refs.specs.Written.{capitals}
-use Rattle.cell_refs.proofs.Capitals.{number_found, number_none}
+use Rattle.cell_refs.proofs.PublicLaws.{number_found, number_none}
 use Rattle.formula_parse.specs.Lexing.{begins_with, sheet_len}
 
 -- what follows a word, where the text begins with it

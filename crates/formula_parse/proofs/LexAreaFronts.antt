@@ -6,7 +6,7 @@ use Rattle.std.proofs.Math.Seq.{take-append_seam, take-append-add}
 use Rattle.cell_refs.specs.declared.references.RefText.{RefText}
 use Rattle.cell_refs.specs.RefText.{IsReference}
 use Rattle.cell_refs.specs.Written.{capitals, reference_at}
-use Rattle.cell_refs.proofs.BothWays.{reference_capitals}
+use Rattle.cell_refs.proofs.PublicLaws.{reference_capitals}
 use Rattle.formula_parse.specs.declared.tokens.Token.TheVariants as tokens
 use Rattle.formula_parse.specs.Lexing.{corner_begun, name_begun, reference_begun, plain_begun, passes_at}
 use Rattle.formula_parse.specs.Tokens.{Writes}

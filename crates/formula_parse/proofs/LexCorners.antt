@@ -9,7 +9,7 @@ use Rattle.cell_refs.specs.declared.references.RefText.{RefText}
 use Rattle.cell_refs.specs.Reading.{reference_in}
 use Rattle.cell_refs.specs.RefText.{IsReference}
 use Rattle.cell_refs.specs.Written.{capitals}
-use Rattle.cell_refs.proofs.BothWays.{reference_again, reference_takes, reference_capitals}
+use Rattle.cell_refs.proofs.PublicLaws.{reference_again, reference_takes, reference_capitals}
 use Rattle.formula_parse.specs.Lexing.{column_begun, row_begun, mark_len, plain_begun, passes_at}
 use Rattle.formula_parse.proofs.LexFirst.{first_passes}
 use Rattle.formula_parse.proofs.LexLiving.{live, live_front, live_most, live_within, front_lives, front_joins, ending, column_live, behind_letters, behind_column, column_more, marked}

@@ -7,7 +7,7 @@ use Rattle.std.proofs.lemmas.Str.Parse.{IsDigitsTest, IsNumeralModel, numerals_b
 use Rattle.std.specs.Char.{is_ascii_digit}
 use Rattle.std.specs.List.{list_all}
 use Rattle.std.specs.Str.Parse.{IsNumeral, digits_value}
-use Rattle.cell_refs.proofs.Numbers.{take_while-append, front_and_rest, rest_stops}
+use Rattle.cell_refs.proofs.PublicLaws.{take_while-append, front_and_rest, rest_stops}
 use Rattle.formula_parse.specs.declared.tokens.Token.{Token}
 use Rattle.formula_parse.specs.declared.tokens.Token.TheVariants as tokens
 use Rattle.formula_parse.specs.Lexing.{token_at}

@@ -12,8 +12,7 @@ use Rattle.std.specs.Str.{all_ascii_digits}
 use Rattle.cell_refs.specs.declared.references.RefText.{RefText}
 use Rattle.cell_refs.specs.RefText.{IsReference}
 use Rattle.cell_refs.specs.Written.{capitals}
-use Rattle.cell_refs.proofs.BothWays.{reference_capitals, sheet_capitals}
-use Rattle.cell_refs.proofs.Numerals.{numerals}
+use Rattle.cell_refs.proofs.PublicLaws.{reference_capitals, sheet_capitals, numerals}
 use Rattle.cell_values.specs.Name.{is_name_byte}
 use Rattle.formula_parse.specs.Lexing.{name_begun, reference_begun}
 use Rattle.formula_parse.proofs.LexCorners.{IsPlain, plain_most}

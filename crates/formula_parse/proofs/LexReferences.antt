@@ -13,9 +13,7 @@ use Rattle.cell_refs.specs.declared.references.RefText.{RefText}
 use Rattle.cell_refs.specs.RefText.{IsReference}
 use Rattle.cell_refs.specs.Reading.{reference_in}
 use Rattle.cell_refs.specs.Written.{capitals, reference_at, mark, column_letters}
-use Rattle.cell_refs.proofs.BothWays.{reference_again, reference_takes, reference_capitals, sheet_capitals}
-use Rattle.cell_refs.proofs.Columns.{letters_begin}
-use Rattle.cell_refs.proofs.Numerals.{numerals}
+use Rattle.cell_refs.proofs.PublicLaws.{reference_again, reference_takes, reference_capitals, sheet_capitals, letters_begin, numerals}
 use Rattle.formula_parse.proofs.LexFirst.{first_passes, begins_word}
 
 -- a digit is one in upper case too

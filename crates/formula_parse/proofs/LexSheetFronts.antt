@@ -9,8 +9,7 @@ use Rattle.cell_refs.specs.declared.references.RefText.{RefText}
 use Rattle.cell_refs.specs.Reading.{reference_in, sheet_at, sheet_number_at, number_at, mark_at, column_at, rest_after}
 use Rattle.cell_refs.specs.RefText.{IsReference}
 use Rattle.cell_refs.specs.Written.{capitals, mark, column_letters}
-use Rattle.cell_refs.proofs.BothWays.{reference_again, reference_capitals, sheet_capitals, sheet_takes}
-use Rattle.cell_refs.proofs.Numbers.{number_again}
+use Rattle.cell_refs.proofs.PublicLaws.{reference_again, reference_capitals, sheet_capitals, sheet_takes, number_again}
 use Rattle.formula_parse.specs.declared.tokens.Token.TheVariants as tokens
 use Rattle.formula_parse.specs.Lexing.{sheet_len, reference_begun, plain_begun}
 use Rattle.formula_parse.specs.Tokens.{Writes}

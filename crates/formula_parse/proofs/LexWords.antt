@@ -10,7 +10,7 @@ use Rattle.std.specs.List.{list_all}
 use Rattle.std.specs.Str.{bytes_eq}
 use Rattle.cell_refs.specs.declared.references.RefText.{RefText}
 use Rattle.cell_refs.specs.Written.{capitals, reference_at}
-use Rattle.cell_refs.proofs.Numbers.{front_and_rest, rest_stops}
+use Rattle.cell_refs.proofs.PublicLaws.{front_and_rest, rest_stops}
 use Rattle.cell_values.specs.Name.{is_name, is_name_byte}
 use Rattle.formula_parse.specs.declared.tokens.Token.{Token}
 use Rattle.formula_parse.specs.declared.tokens.Token.TheVariants as tokens

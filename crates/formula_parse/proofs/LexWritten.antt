@@ -12,9 +12,7 @@ use Rattle.cell_refs.specs.declared.references.RefText.{RefText}
 use Rattle.cell_refs.specs.Reading.{reference_in, sheet_at, mark_at, column_at}
 use Rattle.cell_refs.specs.RefText.{IsReference}
 use Rattle.cell_refs.specs.Written.{capitals, reference_at}
-use Rattle.cell_refs.proofs.BothWays.{reference_capitals}
-use Rattle.cell_refs.proofs.Front.{nothing_read}
-use Rattle.cell_refs.proofs.Numbers.{take_while-append, front_and_rest}
+use Rattle.cell_refs.proofs.PublicLaws.{reference_capitals, nothing_read, take_while-append, front_and_rest}
 use Rattle.cell_values.specs.Name.{is_name, is_name_byte}
 use Rattle.formula_parse.specs.declared.tokens.Token.{Token}
 use Rattle.formula_parse.specs.declared.tokens.Token.TheVariants as tokens

@@ -1,70 +1,71 @@
 -- Lemmas of this crate.
-pub mod Causes
-pub mod ChainLinks
-pub mod ChainTaken
-pub mod CodeBytes
-pub mod CodeDigits
-pub mod CodeFaults
-pub mod CodeLengths
-pub mod CodeLoop
-pub mod CodeNames
-pub mod CodeQuotes
-pub mod CodeReading
-pub mod CodeSheets
-pub mod CodeTokens
-pub mod CodeTurns
-pub mod CodeWords
-pub mod Completing
-pub mod Depths
-pub mod LexAreaFronts
-pub mod LexBegun
-pub mod LexColumns
-pub mod LexCorners
-pub mod LexErrorFronts
-pub mod LexErrors
-pub mod LexFirst
-pub mod LexFronts
-pub mod LexLiving
-pub mod LexMarks
-pub mod LexNameFronts
-pub mod LexNumbers
-pub mod LexPlain
-pub mod LexReferenceFronts
-pub mod LexReferences
-pub mod LexRows
-pub mod LexSheetFronts
-pub mod LexTextFronts
-pub mod LexTexts
-pub mod LexTokens
-pub mod LexTurns
-pub mod LexWords
-pub mod LexWritten
-pub mod LexingLaws
-pub mod Machine
-pub mod MachineLaws
-pub mod Marks
-pub mod NamingCollected
-pub mod NamingLaws
-pub mod NamingTokens
-pub mod NodeLaws
-pub mod Outcomes
-pub mod ParseLaws
-pub mod Printed
-pub mod PrintedDepth
-pub mod PrintedFlow
-pub mod PrintedPieces
-pub mod PrintedShort
-pub mod PrintedSpelled
-pub mod PrintedThinned
-pub mod PrintedWritten
-pub mod Printing
-pub mod Runs
-pub mod SyntaxPlaces
-pub mod TokenReads
-pub mod TurnCloses
-pub mod TurnGrammar
-pub mod TurnOpens
-pub mod TurnRuns
-pub mod TurnStands
-pub mod TurnTaken
-pub mod Uniqueness
+mod Causes
+mod ChainLinks
+mod ChainTaken
+mod CodeBytes
+mod CodeDigits
+mod CodeFaults
+mod CodeLengths
+mod CodeLoop
+mod CodeNames
+mod CodeQuotes
+mod CodeReading
+mod CodeSheets
+mod CodeTokens
+mod CodeTurns
+mod CodeWords
+mod Completing
+mod Depths
+mod LexAreaFronts
+mod LexBegun
+mod LexColumns
+mod LexCorners
+mod LexErrorFronts
+mod LexErrors
+mod LexFirst
+mod LexFronts
+mod LexLiving
+mod LexMarks
+mod LexNameFronts
+mod LexNumbers
+mod LexPlain
+mod LexReferenceFronts
+mod LexReferences
+mod LexRows
+mod LexSheetFronts
+mod LexTextFronts
+mod LexTexts
+mod LexTokens
+mod LexTurns
+mod LexWords
+mod LexWritten
+mod LexingLaws
+mod Machine
+mod MachineLaws
+mod Marks
+mod NamingCollected
+mod NamingLaws
+mod NamingTokens
+mod NodeLaws
+mod Outcomes
+mod ParseLaws
+mod Printed
+mod PrintedDepth
+mod PrintedFlow
+mod PrintedPieces
+mod PrintedShort
+mod PrintedSpelled
+mod PrintedThinned
+mod PrintedWritten
+mod Printing
+mod Runs
+mod SyntaxPlaces
+mod TokenReads
+mod TurnCloses
+mod TurnGrammar
+mod TurnOpens
+mod TurnRuns
+mod TurnStands
+mod TurnTaken
+mod Uniqueness
+pub mod PublicLaws

@@ -9,7 +9,7 @@ use Rattle.std.proofs.lemmas.Str.{IsUtf8-from_is_utf8, encodes-chars, length-enc
 use Rattle.cell_refs.specs.RefText.{IsReference}
 use Rattle.cell_refs.specs.Written.{capitals, reference_at}
 use Rattle.cell_refs.specs.declared.references.RefText.{RefText}
-use Rattle.cell_refs.proofs.Front.{stands_from_read, stands_long}
+use Rattle.cell_refs.proofs.PublicLaws.{stands_from_read, stands_long}
 use Rattle.cell_values.specs.Error.{error_word}
 use Rattle.cell_values.specs.declared.comparison.CompareOp.TheVariants as compare
 use Rattle.cell_values.specs.declared.errors.ErrorKind.{ErrorKind}

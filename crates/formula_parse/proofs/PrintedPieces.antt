@@ -14,7 +14,7 @@ use Rattle.std.proofs.lemmas.Str.Ascii.{IsAscii-nil, IsAscii-cons, IsAscii-map}
 use Rattle.cell_refs.specs.RefText.{IsReference}
 use Rattle.cell_refs.specs.Written.{capitals, reference_at, reference_text}
 use Rattle.cell_refs.specs.declared.references.RefText.{RefText}
-use Rattle.cell_refs.proofs.Front.{ascii_reference, reference_reads_back, stands_from_read}
+use Rattle.cell_refs.proofs.PublicLaws.{ascii_reference, reference_reads_back, stands_from_read}
 use Rattle.cell_values.specs.Error.{error_word}
 use Rattle.cell_values.specs.Name.{is_name, is_name_byte}
 use Rattle.cell_values.specs.Word.{with_doubled_quotes}

@@ -8,7 +8,7 @@ use Rattle.std.proofs.lemmas.List.Folds.{list_all_at}
 use Rattle.cell_refs.specs.declared.areas.Area.{Area}
 use Rattle.cell_refs.specs.declared.grid.Cell.{Cell}
 use Rattle.cell_refs.specs.Area.{IsInside, area_has, cells_of}
-use Rattle.cell_refs.proofs.Listing.{listed_inside, inside_listed}
+use Rattle.cell_refs.proofs.PublicLaws.{listed_inside, inside_listed}
 use Rattle.rtdhost.specs.Scanning.{lies_in}
 use Rattle.rtdhost.proofs.AreaOrder.{is_inside}
 

@@ -6,7 +6,7 @@ use Rattle.std.specs.Ordering.{is_lt, is_gt, is_eq, ordering_reverse}
 use Rattle.std.specs.Cmp.{upto}
 use Rattle.cell_refs.specs.declared.grid.Cell.{Cell}
 use Rattle.cell_refs.specs.Cell.{cell_cmp, same_cell}
-use Rattle.cell_refs.proofs.CellOrder.{cells_total}
+use Rattle.cell_refs.proofs.PublicLaws.{cells_total}
 use Rattle.rtdhost.specs.Scanning.{is_less}
 
 -- an answer that is turned round is less where it was greater

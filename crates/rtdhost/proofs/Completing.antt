@@ -13,24 +13,18 @@ use Rattle.std.proofs.lemmas.List.Sums.{sum_by-cons}
 use Rattle.std.proofs.lemmas.Map.Keys.{sorted_head, sorted_tail}
 use Rattle.cell_refs.specs.declared.grid.Cell.{Cell}
 use Rattle.cell_refs.specs.Cell.{cell_cmp, same_cell}
-use Rattle.cell_refs.proofs.CellOrder.{exact_cells, cells_total}
+use Rattle.cell_refs.proofs.PublicLaws.{exact_cells, cells_total}
 use Rattle.cell_values.specs.declared.values.Value.{Value}
 use Rattle.workbook.specs.declared.contents.Content.{Content}
 use Rattle.workbook.specs.Book.{IsInOrder, content_at, has_formula, is_formula, formula_cells, formula_count, exceeds_cells, exceeds_formulas}
 use Rattle.workbook.specs.Meaning.{meaning, shown_value, sheet_of}
 use Rattle.workbook.specs.Stale.{is_among, is_stale, reaches, stale_count}
-use Rattle.workbook.proofs.Cells.{same_cell_is, same_cells}
-use Rattle.workbook.proofs.Entries.{own_content}
-use Rattle.workbook.proofs.Meanings.{meaning-kept_clean}
-use Rattle.workbook.proofs.Reaching.{reaches-among}
-use Rattle.workbook.proofs.Steps.{formula_cells-has}
+use Rattle.workbook.proofs.PublicLaws.{same_cell_is, same_cells, own_content, meaning-kept_clean, reaches-among, formula_cells-has, any_alike, or_false}
 use Rattle.workbook.specs.declared.commands.Command.{Command}
 use Rattle.workbook.specs.declared.commands.Command.TheVariants as commands
 use Rattle.workbook.specs.declared.replies.Reply.TheVariants as replies
 use Rattle.workbook.specs.State.{State, alone, reply_to, state_after, reply_at_rest, reply_in_round, after_at_rest, after_in_round, reply_to_set}
 use Rattle.workbook.specs.Book.{SetsContent, cell_precedents}
-use Rattle.workbook.proofs.Walking.{any_alike}
-use Rattle.workbook.proofs.Reaching.{or_false}
 use Rattle.rtdhost.specs.Marking.{AddsCell}
 use Rattle.rtdhost.specs.Inputs.{ShowsOthers}
 use Rattle.rtdhost.specs.Publishing.{ShowsMeaning, KeepsMeanings, ShowsConstants, ShowsStale}

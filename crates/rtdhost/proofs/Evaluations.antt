@@ -23,11 +23,7 @@ use Rattle.workbook.specs.Evaluation.{Answer, answer_of}
 use Rattle.workbook.specs.Meaning.{Meaning, Val, Circ, Asks, Open, world_at, meaning_of_answer, value_in, is_open, content_meaning, meaning, shown_value}
 use Rattle.workbook.specs.Stale.{is_among}
 use Rattle.workbook.specs.State.{alone}
-use Rattle.workbook.proofs.Cells.{same_cell_is}
-use Rattle.workbook.proofs.Evaluations.{evaluated_alike}
-use Rattle.workbook.proofs.Walking.{walks-formula, circular-names}
-use Rattle.workbook.proofs.Meanings.{each_leads, none_where, shows_circle, meaning-unfolds}
-use Rattle.workbook.proofs.Steps.{formula_cells-has, formula_cells-count}
+use Rattle.workbook.proofs.PublicLaws.{same_cell_is, evaluated_alike, walks-formula, circular-names, each_leads, none_where, shows_circle, meaning-unfolds, formula_cells-has, formula_cells-count}
 use Rattle.rtdhost.specs.Inputs.{AreInputs, known_content, known_formula, known_input, answer_value, value_if_known, content_if_known, ready_value, ShowsOthers, AreMeant, KeepsFinished, FinishesReady, IsFinishedOrNew, IsEvaluated}
 
 -- ---- lists and tests

@@ -12,7 +12,7 @@ use Rattle.cell_refs.specs.Cell.{cell_cmp, same_cell}
 use Rattle.cell_values.specs.declared.values.Value.{Value}
 use Rattle.cell_values.specs.declared.values.Value.TheVariants.{Blank}
 use Rattle.cell_eval.specs.Jobs.{input_of}
-use Rattle.workbook.proofs.Cells.{same_cell_is, same_cells}
+use Rattle.workbook.proofs.PublicLaws.{same_cell_is, same_cells}
 use Rattle.workbook.specs.declared.contents.Content.{Content}
 use Rattle.workbook.specs.Book.{IsInOrder, cells_from, content_at}
 use Rattle.rtdhost.specs.declared.gathering.Step.{Step}

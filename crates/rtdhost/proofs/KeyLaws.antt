@@ -9,7 +9,7 @@ use Rattle.cell_refs.specs.declared.areas.Area.{Area}
 use Rattle.cell_refs.specs.declared.grid.Cell.{Cell}
 use Rattle.cell_refs.specs.Cell.{cell_cmp, same_cell}
 use Rattle.workbook.specs.Stale.{is_among}
-use Rattle.workbook.proofs.Cells.{same_cell_is, same_cells}
+use Rattle.workbook.proofs.PublicLaws.{same_cell_is, same_cells}
 use Rattle.rtdhost.specs.Scanning.{IsLeastFrom, is_before, is_less, lies_in}
 use Rattle.rtdhost.proofs.CellsInOrder.{turned}
 

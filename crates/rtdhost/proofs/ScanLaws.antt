@@ -6,7 +6,7 @@ use Rattle.std.proofs.lemmas.List.Sums.{sum_by-cons}
 use Rattle.cell_refs.specs.declared.areas.Area.{Area}
 use Rattle.cell_refs.specs.declared.grid.Cell.{Cell}
 use Rattle.cell_refs.specs.Cell.{same_cell}
-use Rattle.workbook.proofs.Cells.{same_cell_is}
+use Rattle.workbook.proofs.PublicLaws.{same_cell_is}
 use Rattle.rtdhost.specs.Scanning.{IsFirst, IsNext, IsLeastFrom, is_before, is_less, lies_in}
 use Rattle.rtdhost.proofs.CellsInOrder.{apart-less, less-one_way, less-upto}
 

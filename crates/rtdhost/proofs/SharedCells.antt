@@ -9,8 +9,7 @@ use Rattle.cell_refs.specs.declared.grid.Cell.{Cell}
 use Rattle.cell_refs.specs.Area.{cells_of}
 use Rattle.cell_refs.specs.Cell.{same_cell}
 use Rattle.workbook.specs.Stale.{is_among}
-use Rattle.workbook.proofs.Cells.{same_cell_is, same_cells}
-use Rattle.workbook.proofs.Walking.{any_alike}
+use Rattle.workbook.proofs.PublicLaws.{same_cell_is, same_cells, any_alike}
 use Rattle.rtdhost.specs.Marking.{is_hot}
 use Rattle.rtdhost.specs.Scanning.{lies_in}
 use Rattle.rtdhost.proofs.AreaCells.{lies_listed, listed_lies}

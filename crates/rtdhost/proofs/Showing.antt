@@ -15,7 +15,7 @@ use Rattle.workbook.specs.Book.{IsInOrder, content_at, has_formula, is_formula}
 use Rattle.workbook.specs.Meaning.{Val, meaning, shown_value}
 use Rattle.workbook.specs.Stale.{is_among}
 use Rattle.workbook.specs.State.{alone}
-use Rattle.workbook.proofs.Cells.{same_cell_is, same_cells}
+use Rattle.workbook.proofs.PublicLaws.{same_cell_is, same_cells}
 use Rattle.rtdhost.proofs.Evaluations.{constant_means}
 use Rattle.rtdhost.specs.Inputs.{IsEvaluated, known_content}
 use Rattle.rtdhost.specs.Publishing.{ShowsMeaning, KeepsMeanings, ShowsStale, ShowsAt, ShowsIfStale}

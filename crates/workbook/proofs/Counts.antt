@@ -10,7 +10,7 @@ use Rattle.std.proofs.lemmas.Bool.Decides.{nat_tests}
 use Rattle.std.proofs.lemmas.List.Sums.{sum_by-cons, count_by-le-length}
 use Rattle.cell_refs.specs.declared.grid.Cell.{Cell}
 use Rattle.cell_refs.specs.Cell.{cell_cmp, same_cell}
-use Rattle.cell_refs.proofs.CellOrder.{cells_total}
+use Rattle.cell_refs.proofs.PublicLaws.{cells_total}
 use Rattle.workbook.specs.declared.contents.Content.{Content}
 use Rattle.workbook.specs.Book.{CELL_LIMIT, FORMULA_LIMIT, formula_weight, formula_count, has_formula, content_at}
 

@@ -1,12 +1,13 @@
 -- Laws of books, and of what their cells mean.
-pub mod Cells
-pub mod Counts
-pub mod Entries
-pub mod FunctionLaws
-pub mod Settling
-pub mod Walking
-pub mod Reaching
-pub mod Evaluations
-pub mod Meanings
-pub mod Values
-pub mod Steps
+mod Cells
+mod Counts
+mod Entries
+mod FunctionLaws
+mod Settling
+mod Walking
+mod Reaching
+mod Evaluations
+mod Meanings
+mod Values
+mod Steps
+pub mod PublicLaws

@@ -23,7 +23,7 @@ use Rattle.formula_parse.specs.declared.nodes.Node.TheVariants as nodes
 use Rattle.formula_parse.specs.declared.nodes.Node.TheOpen as layer
 use Rattle.formula_parse.specs.declared.operators.Operator.{Operator}
 use Rattle.formula_parse.specs.Tree.{precedents}
-use Rattle.formula_parse.proofs.NodeLaws.{fold_number, fold_text, fold_error, fold_boolean, fold_reference, fold_area, fold_call, fold_parentheses, fold_negation, fold_chain, node_induction}
+use Rattle.formula_parse.proofs.PublicLaws.{fold_number, fold_text, fold_error, fold_boolean, fold_reference, fold_area, fold_call, fold_parentheses, fold_negation, fold_chain, node_induction}
 use Rattle.functions.specs.Applied.{result_of}
 use Rattle.functions.specs.Functions.{function_named, arity_of}
 use Rattle.functions.specs.Inputs.{all_ok}

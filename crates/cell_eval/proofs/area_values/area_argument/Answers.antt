@@ -1,6 +1,6 @@
 use Rattle.std.proofs.Common.{◌≡◌, length, ap, ◌∙◌}
 use Rattle.std.proofs.lemmas.List.{length-map}
-use Rattle.cell_refs.proofs.Listing.{count_cells}
+use Rattle.cell_refs.proofs.PublicLaws.{count_cells}
 use Rattle.cell_refs.specs.Area.{cells_of, size_of}
 use Rattle.cell_eval.specs.Jobs.{input_of}
 use Rattle.cell_eval.proofs.AreaLaws.{whole_rows}

@@ -1,6 +1,6 @@
 use Rattle.std.proofs.Common.{◌≡◌, ◌++◌, [], sym, ap, ◌∙◌, rules}
 use Rattle.std.proofs.lemmas.List.{append-nil}
-use Rattle.cell_refs.proofs.Listing.{listed_in_order}
+use Rattle.cell_refs.proofs.PublicLaws.{listed_in_order}
 use Rattle.cell_refs.specs.Area.{cells_of}
 use Rattle.cell_eval.proofs.InputLaws.{values_along, along_cells, ascend_from_pairs}
 use Rattle.cell_eval.proofs.area_values.area_values.Goals as goal

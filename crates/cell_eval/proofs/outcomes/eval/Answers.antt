@@ -1,7 +1,7 @@
 use Rattle.std.proofs.Common.{sym, ap, subst, ◌∙◌, arith}
 use Rattle.formula_parse.specs.declared.nodes.Node.{Node}
 use Rattle.formula_parse.specs.Tree.{IsTree}
-use Rattle.formula_parse.proofs.NamingLaws.{named_small, sites_fit}
+use Rattle.formula_parse.proofs.PublicLaws.{named_small, sites_fit}
 use Rattle.workbook.specs.Evaluation.{Val, final_answer}
 use Rattle.cell_eval.specs.Jobs.{world_of}
 use Rattle.cell_eval.specs.Steps.{Halts, NamesSmallAreas, answer_at}

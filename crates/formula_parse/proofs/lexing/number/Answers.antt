@@ -1,5 +1,5 @@
 use Rattle.std.proofs.Common.{refl}
-use Rattle.cell_refs.proofs.Capitals.{cut_digits}
+use Rattle.cell_refs.proofs.PublicLaws.{cut_digits}
 use Rattle.formula_parse.proofs.lexing.number.Goals as goal
 
 pub value-requires : goal.value-requires

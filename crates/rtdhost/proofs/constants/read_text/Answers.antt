@@ -1,5 +1,5 @@
 use Rattle.std.proofs.Common.{ap, option_map}
-use Rattle.cell_values.proofs.TextFacts.{no_text_of_bytes, no_text_from_control}
+use Rattle.cell_values.proofs.PublicLaws.{no_text_of_bytes, no_text_from_control}
 use Rattle.workbook.specs.declared.contents.Content.TheVariants.{Text}
 use Rattle.rtdhost.proofs.constants.read_text.Goals as goal
 

@@ -2,7 +2,7 @@ use Rattle.std.proofs.Common.{◌≡◌, ◌+◌, ◌-◌, arith, get_or, sym}
 use Rattle.std.proofs.lemmas.Str.Parse.{digits_value-take-le}
 use Rattle.std.proofs.lemmas.Int.Digits.{digits_more, digits_value_more}
 use Rattle.std.specs.Char.{digit_value}
-use Rattle.cell_values.proofs.DigitFacts.{whole_of_no_digit, whole_too_large, whole_of_front, outside_digits, value_of_digit, digit_below_ten, length_of_some}
+use Rattle.cell_values.proofs.PublicLaws.{whole_of_no_digit, whole_too_large, whole_of_front, outside_digits, value_of_digit, digit_below_ten, length_of_some}
 use Rattle.rtdhost.proofs.constants.whole.Goals as goal
 
 pub returns-then-not-is_ascii_digit-clause-number :

@@ -1,5 +1,5 @@
 use Rattle.std.proofs.Common.{rules, Ok, ap, ◌∙◌}
-use Rattle.workbook.proofs.Reaching.{or_false}
+use Rattle.workbook.proofs.PublicLaws.{or_false}
 use Rattle.rtdhost.proofs.Evaluations.{ready-next, kept-next, meant-next}
 use Rattle.rtdhost.proofs.evaluating.evaluate_pass.Goals as goal
 

@@ -1,6 +1,6 @@
 use Rattle.std.proofs.Common.{ap, sym, ◌∙◌, arith, append_assoc, ◌++◌, Some}
 use Rattle.workbook.specs.Book.{formula_cells, cells_after}
-use Rattle.workbook.proofs.Steps.{next-shorter, next-formulas}
+use Rattle.workbook.proofs.PublicLaws.{next-shorter, next-formulas}
 use Rattle.rtdhost.proofs.marking.formula_cells.Goals as goal
 
 pub loop-cell-smaller : goal.loop-cell-smaller

@@ -1,5 +1,5 @@
 use Rattle.std.proofs.Common.{rules, Ok, ap, ◌∙◌}
-use Rattle.workbook.proofs.Reaching.{or_false}
+use Rattle.workbook.proofs.PublicLaws.{or_false}
 use Rattle.rtdhost.proofs.Marks.{touched-next, stale-next}
 use Rattle.rtdhost.proofs.marking.mark_pass.Goals as goal
 

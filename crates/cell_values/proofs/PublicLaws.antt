@@ -1,0 +1,3 @@
+-- The laws that crates above may cite: digits, and the form of texts.
+pub use Rattle.cell_values.proofs.DigitFacts.{both_true, whole_of_no_digit, whole_too_large, whole_of_front, outside_digits, value_of_digit, digit_below_ten, length_of_some}
+pub use Rattle.cell_values.proofs.TextFacts.{no_text_of_bytes, no_text_from_control}
