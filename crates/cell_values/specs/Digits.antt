@@ -5,14 +5,11 @@ use Rattle.std.specs.List.{list_all}
 use Rattle.std.specs.Option.{option_map}
 use Rattle.std.specs.Str.{all_ascii_digits}
 use Rattle.std.specs.Str.Parse.{digits_value}
+use Rattle.cell_values.specs.declared.limits.TheConstants.{LARGEST_NUMBER}
 
--- the greatest magnitude of a number
-abbrev pub GREATEST : ℕ
-GREATEST = 999999999999999
-
--- one or more decimal digits, whose value is at most 999,999,999,999,999
+-- one or more decimal digits, whose value is within the magnitude
 abbrev pub is_whole : List ℕ → Bool
-is_whole ds = all_ascii_digits ds && (nat_lt 0 (length ds) && nat_le (digits_value 10 ds) GREATEST)
+is_whole ds = all_ascii_digits ds && (nat_lt 0 (length ds) && nat_le (digits_value 10 ds) LARGEST_NUMBER)
 
 -- the number that such digits stand for
 abbrev pub whole_number : List ℕ → Option ℕ
