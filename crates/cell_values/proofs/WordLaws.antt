@@ -52,9 +52,9 @@ lead_test c n lead =
     omega arith)
 
 -- digits without a leading zero are a number word
-number_of_digits : (ds : List ℕ) → 0 < length ds → all_ascii_digits ds ≡ true → (get_or ds 0 0 ≡ 48 → length ds ≡ 1) → digits_value 10 ds ≤ 999999999999999 → number_word ds ≡ Some (pos (digits_value 10 ds))
-number_of_digits [] some all lead small = absurd (omega arith)
-number_of_digits (c ∷ cs) some all lead small =
+number_word-digits : (ds : List ℕ) → 0 < length ds → all_ascii_digits ds ≡ true → (get_or ds 0 0 ≡ 48 → length ds ≡ 1) → digits_value 10 ds ≤ 999999999999999 → number_word ds ≡ Some (pos (digits_value 10 ds))
+number_word-digits [] some all lead small = absurd (omega arith)
+number_word-digits (c ∷ cs) some all lead small =
     let digit = (tells_all_ascii_digits.parts c cs all).0 in
     let whole = option_map (λ n. pos n) (whole_number (c ∷ cs)) in
     let below = cond (begins_with_zero cs) None (option_map below_zero (whole_number cs)) in
@@ -74,7 +74,7 @@ number_word-decimal : (z : ℤ) → unsigned_abs z ≤ 999999999999999 → numbe
 number_word-decimal (pos n) small =
     let fits : n < 2 ^ 64 = omega arith in
     let value : digits_value 10 (decimal n) ≡ n = digits_value-decimal own n fits in
-    number_of_digits (decimal n) (decimal_nonempty n fits) (digits_decimal own n fits) (decimal_lead n fits) (omega arith) ∙ ap (λ m. Some (pos m)) value
+    number_word-digits (decimal n) (decimal_nonempty n fits) (digits_decimal own n fits) (decimal_lead n fits) (omega arith) ∙ ap (λ m. Some (pos m)) value
 number_word-decimal (negsuc n) small =
     let fits : suc n < 2 ^ 64 = omega arith in
     let ds = decimal (suc n) in

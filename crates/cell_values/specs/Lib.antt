@@ -1,4 +1,5 @@
 -- What the contracts of this crate cite.
+-- What the product means.
 pub mod Coercion
 pub mod Comparison
 pub mod Digits
@@ -6,5 +7,6 @@ pub mod Error
 pub mod Name
 pub mod Text
 pub mod TextFault
+pub mod Topic
 pub mod Value
 pub mod Word

@@ -6,9 +6,10 @@ use Rattle.std.specs.Fmt.{signed_decimal}
 use Rattle.std.specs.Str.{bytes_eq}
 use Rattle.cell_values.specs.declared.errors.ErrorKind.{ErrorKind}
 use Rattle.cell_values.specs.declared.errors.ErrorKind.TheVariants as errors
+use Rattle.cell_values.specs.declared.limits.TheConstants.{LARGEST_NUMBER}
 use Rattle.cell_values.specs.declared.values.Value.{Value}
 use Rattle.cell_values.specs.declared.values.Value.TheVariants as values
-use Rattle.cell_values.specs.Digits.{GREATEST, whole_number, below_zero}
+use Rattle.cell_values.specs.Digits.{whole_number, below_zero}
 use Rattle.cell_values.specs.Error.{error_word}
 use Rattle.cell_values.specs.Text.{is_text}
 
@@ -34,7 +35,7 @@ value_text values.Blank = codes "0"
 
 -- a value that a word says: a number within the magnitude, a text, a boolean or an error
 abbrev pub HasWord : Value → Type 0
-HasWord (values.Num n) = unsigned_abs n ≤ GREATEST
+HasWord (values.Num n) = unsigned_abs n ≤ LARGEST_NUMBER
 HasWord (values.Text t) = IsTrue (is_text t)
 HasWord (values.Bool b) = Unit {0}
 HasWord (values.Error e) = Unit {0}

@@ -5,7 +5,8 @@ ghost use Rattle.std.specs.Cmp.Lexicographic.{pointwise, slice_cmp, nat_list_eq_
 ghost use Rattle.std.specs.List.{list_all};
 ghost use Rattle.cell_values.specs.Name.{is_name, is_name_byte};
 
-use super::errors::Memory;
+use super::limits::LONGEST_NAME;
+use super::memory::Memory;
 use std::alloc::Global;
 use std::cmp::Ordering;
 use std::marker::Model;
@@ -68,10 +69,8 @@ impl Name {
     pub fn copy(&self) -> Result<Name, Memory>
         ensures { IfOk result (λ copy. copy ≡ self.now) }
     {
-        match self.shared.clone() {
-            Ok(shared) => Ok(Name { shared }),
-            Err(_) => Err(Memory),
-        }
+        let shared = self.shared.clone()?;
+        Ok(Name { shared })
     }
 }
 
@@ -120,7 +119,9 @@ fn has_form(bytes: &[u8]) -> bool
 {
     match bytes {
         [] => false,
-        [first, rest @ ..] => first.is_ascii_alphabetic() && are_inner(rest) && bytes.len() <= 255,
+        [first, rest @ ..] => first.is_ascii_alphabetic()
+            && are_inner(rest)
+            && bytes.len() <= LONGEST_NAME,
     }
 }
 

@@ -5,7 +5,8 @@ ghost use Rattle.std.specs.Char.{is_ascii_control};
 ghost use Rattle.std.specs.Str.{chars};
 ghost use Rattle.std.specs.String.{string_bytes};
 
-use super::errors::Memory;
+use super::limits::LONGEST_TEXT;
+use super::memory::Memory;
 use std::alloc::{AllocError, Global};
 use std::marker::Model;
 use std::sync::ArcStr;
@@ -38,9 +39,6 @@ pub enum TextFault {
     Control(usize),
 }
 
-/// The greatest number of characters of a text.
-const CHARACTER_LIMIT: usize = 32_767;
-
 impl Text {
     ghost use Rattle.cell_values.specs.Text.{is_text};
     ghost use Rattle.cell_values.specs.TextFault.{IsFaultOf};
@@ -51,7 +49,7 @@ impl Text {
         ensures ok { IfOk result (λ _. IsTrue (is_text s.now)) }
         ensures fault { IfErr result (λ fault. IsFaultOf fault s.now) }
     {
-        if count_characters(s) > CHARACTER_LIMIT {
+        if count_characters(s) > LONGEST_TEXT {
             return Err(TextFault::TooLong);
         }
         if let Some(place) = first_control(s.as_bytes()) {
@@ -75,10 +73,8 @@ impl Text {
     pub fn copy(&self) -> Result<Text, Memory>
         ensures { IfOk result (λ copy. copy ≡ self.now) }
     {
-        match self.shared.clone() {
-            Ok(shared) => Ok(Text { shared }),
-            Err(_) => Err(Memory),
-        }
+        let shared = self.shared.clone()?;
+        Ok(Text { shared })
     }
 }
 
@@ -104,27 +100,20 @@ impl Text {
         requires { IsTrue (is_text s.now) }
         ensures { IfOk result (λ text. text ≡ s.now) }
     {
-        match ArcStr::from_str(alloc, s) {
-            Ok(shared) => Ok(Text { shared }),
-            Err(_) => Err(Memory),
-        }
+        let shared = ArcStr::from_str(alloc, s)?;
+        Ok(Text { shared })
     }
 
     /// The text followed by another; None where both together are too long.
     pub(crate) fn followed_by(&self, alloc: Global, other: &Text) -> Result<Option<Text>, Memory>
         ensures { IfOk result (λ both. both ≡ if_short (self.now ++ other.now)) }
     {
-        let both = match joined(alloc, self.as_str(), other.as_str()) {
-            Ok(both) => both,
-            Err(_) => return Err(Memory),
-        };
-        if count_characters(both.as_str()) > CHARACTER_LIMIT {
+        let both = joined(alloc, self.as_str(), other.as_str())?;
+        if count_characters(both.as_str()) > LONGEST_TEXT {
             return Ok(None);
         }
-        match ArcStr::from_string(both) {
-            Ok(shared) => Ok(Some(Text { shared })),
-            Err(_) => Err(Memory),
-        }
+        let shared = ArcStr::from_string(both)?;
+        Ok(Some(Text { shared }))
     }
 }
 

@@ -7,7 +7,7 @@ use Rattle.cell_values.specs.declared.errors.ErrorKind.TheVariants as errors
 use Rattle.cell_values.specs.declared.values.Value.TheVariants as values
 use Rattle.cell_values.specs.Value.{within_magnitude}
 use Rattle.functions.specs.Arithmetic.{exact_power}
-use Rattle.functions.specs.Numbers.{is_within}
+use Rattle.cell_values.specs.Value.{is_in_magnitude}
 use Rattle.functions.proofs.NumberLaws.{outside, far_from}
 
 grows : (m n : ℤ) → 0 < unsigned_abs m → 999999999999999 < unsigned_abs n → 999999999999999 < unsigned_abs (m *ℤ n)
@@ -19,13 +19,13 @@ stays_far n i (suc d) zero e some far = absurd (omega arith)
 stays_far n i (suc d) (suc j) e some far = grows n (exact_power n j) some (stays_far n i d j (omega arith) some far)
 
 -- a power that has left the magnitude doesn't come back
-pub power_beyond : (n : ℤ) (i d j : ℕ) → j ≡ d + i → 0 < unsigned_abs n → is_within (exact_power n i) ≡ false
+pub power_beyond : (n : ℤ) (i d j : ℕ) → j ≡ d + i → 0 < unsigned_abs n → is_in_magnitude (exact_power n i) ≡ false
     → values.Error errors.Num ≡ within_magnitude (exact_power n j)
 power_beyond n i d j e some out =
     sym (ap (λ b. cond b (values.Num (exact_power n j)) (values.Error errors.Num)) (outside (exact_power n j) (stays_far n i d j e some (far_from (exact_power n i) out))))
 
 -- a power within the magnitude
-pub power_within : (n : ℤ) (j : ℕ) → is_within (exact_power n j) ≡ true → values.Num (exact_power n j) ≡ within_magnitude (exact_power n j)
+pub power_within : (n : ℤ) (j : ℕ) → is_in_magnitude (exact_power n j) ≡ true → values.Num (exact_power n j) ≡ within_magnitude (exact_power n j)
 power_within n j e = sym (ap (λ b. cond b (values.Num (exact_power n j)) (values.Error errors.Num)) e)
 
 -- the powers of 0

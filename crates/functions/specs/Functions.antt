@@ -1,9 +1,10 @@
--- The functions: their names and their counts of arguments.
-use Rattle.std.specs.Prelude.{ℕ, List, [], ◌∷◌, Option, codes}
+-- The functions: their names, their counts of arguments, and which areas they take.
+use Rattle.std.specs.Prelude.{ℕ, Bool, true, false, ◌&&◌, ◌==◌, nat_le, List, [], ◌∷◌, Option, codes}
 use Rattle.std.specs.List.{find}
 use Rattle.std.specs.Str.{bytes_eq}
 use Rattle.functions.specs.declared.functions.Function.{Function}
 use Rattle.functions.specs.declared.functions.Function.TheVariants as functions
+use Rattle.functions.specs.declared.limits.TheConstants.{MOST_ARGUMENTS}
 
 -- the name of a function
 abbrev pub word_of : Function → List ℕ
@@ -64,8 +65,8 @@ arity_of functions.False = (0, 0)
 arity_of functions.If = (2, 3)
 arity_of functions.IfError = (2, 2)
 arity_of functions.IfNa = (2, 2)
-arity_of functions.And = (1, 255)
-arity_of functions.Or = (1, 255)
+arity_of functions.And = (1, MOST_ARGUMENTS)
+arity_of functions.Or = (1, MOST_ARGUMENTS)
 arity_of functions.Not = (1, 1)
 arity_of functions.IsNumber = (1, 1)
 arity_of functions.IsText = (1, 1)
@@ -74,18 +75,18 @@ arity_of functions.IsError = (1, 1)
 arity_of functions.IsNa = (1, 1)
 arity_of functions.IsBlank = (1, 1)
 arity_of functions.Na = (0, 0)
-arity_of functions.Sum = (1, 255)
-arity_of functions.Product = (1, 255)
-arity_of functions.Min = (1, 255)
-arity_of functions.Max = (1, 255)
-arity_of functions.Count = (1, 255)
-arity_of functions.CountA = (1, 255)
+arity_of functions.Sum = (1, MOST_ARGUMENTS)
+arity_of functions.Product = (1, MOST_ARGUMENTS)
+arity_of functions.Min = (1, MOST_ARGUMENTS)
+arity_of functions.Max = (1, MOST_ARGUMENTS)
+arity_of functions.Count = (1, MOST_ARGUMENTS)
+arity_of functions.CountA = (1, MOST_ARGUMENTS)
 arity_of functions.Abs = (1, 1)
 arity_of functions.Sign = (1, 1)
 arity_of functions.Mod = (2, 2)
 arity_of functions.Quotient = (2, 2)
 arity_of functions.Power = (2, 2)
-arity_of functions.Choose = (2, 255)
+arity_of functions.Choose = (2, MOST_ARGUMENTS)
 arity_of functions.Index = (3, 3)
 arity_of functions.Len = (1, 1)
 arity_of functions.Left = (1, 2)
@@ -93,9 +94,30 @@ arity_of functions.Right = (1, 2)
 arity_of functions.Mid = (3, 3)
 arity_of functions.Upper = (1, 1)
 arity_of functions.Lower = (1, 1)
-arity_of functions.Concatenate = (1, 255)
+arity_of functions.Concatenate = (1, MOST_ARGUMENTS)
 arity_of functions.Exact = (2, 2)
 arity_of functions.Find = (2, 3)
 arity_of functions.Rept = (2, 2)
 arity_of functions.Trim = (1, 1)
 arity_of functions.Value = (1, 1)
+
+-- whether a count is within an arity
+abbrev pub is_within : ℕ × ℕ → ℕ → Bool
+is_within arity count = nat_le arity.0 count && nat_le count arity.1
+
+-- whether a function takes so many arguments
+abbrev pub takes_count : Function → ℕ → Bool
+takes_count f count = is_within (arity_of f) count
+
+-- whether a function takes the values of the area that its argument at this place refers to
+abbrev pub takes_area : Function → ℕ → Bool
+takes_area functions.Sum place = true
+takes_area functions.Product place = true
+takes_area functions.Min place = true
+takes_area functions.Max place = true
+takes_area functions.Count place = true
+takes_area functions.CountA place = true
+takes_area functions.And place = true
+takes_area functions.Or place = true
+takes_area functions.Index place = place == 0
+takes_area other place = false

@@ -1,6 +1,6 @@
 -- What the functions on texts answer. Characters are Unicode scalar values, and their places count from 1.
 use Rattle.std.specs.Prelude.{ℕ, ℤ, suc, pos, negsuc, ◌+◌, ◌-◌, ◌==◌, ◌&&◌, nat_eq, Bool, if◌then◌else◌, List, [], ◌∷◌, ◌++◌, map, length, take, drop, Option, Some, None, Result, Ok, Err, true, false}
-use Rattle.std.specs.Char.{encode_utf8, to_ascii_uppercase, to_ascii_lowercase}
+use Rattle.std.specs.Char.{to_ascii_uppercase, to_ascii_lowercase}
 use Rattle.std.specs.List.{find, range_with_len, repeat, starts_with}
 use Rattle.std.specs.Option.{option_map, option_map_or, option_and_then}
 use Rattle.std.specs.Str.{bytes_eq, chars, encode_utf8_all}
@@ -122,28 +122,24 @@ abbrev pub rept_of : List Arg → Value
 rept_of args = on_text_and_number rept_part (text_of (argument args 0)) (number_of (argument args 1))
 
 -- whether there are no characters
-abbrev pub none_left : List ℕ → Bool
-none_left [] = true
-none_left (c ∷ cs) = false
+abbrev pub is_empty : List ℕ → Bool
+is_empty [] = true
+is_empty (c ∷ cs) = false
 
 -- without the spaces at the end
 abbrev pub before_spaces : List ℕ → List ℕ
 before_spaces [] = []
-before_spaces (c ∷ cs) = if c == 32 && none_left (before_spaces cs) then [] else c ∷ before_spaces cs
+before_spaces (c ∷ cs) = if c == 32 && is_empty (before_spaces cs) then [] else c ∷ before_spaces cs
 
 -- each run of spaces made one space
-abbrev pub single_spaced : List ℕ → List ℕ
-single_spaced [] = []
-single_spaced (c ∷ []) = c ∷ []
-single_spaced (c ∷ d ∷ cs) = if c == 32 && d == 32 then single_spaced (d ∷ cs) else c ∷ single_spaced (d ∷ cs)
+abbrev pub with_single_spaces : List ℕ → List ℕ
+with_single_spaces [] = []
+with_single_spaces (c ∷ []) = c ∷ []
+with_single_spaces (c ∷ d ∷ cs) = if c == 32 && d == 32 then with_single_spaces (d ∷ cs) else c ∷ with_single_spaces (d ∷ cs)
 
 -- no spaces at the ends, and inner runs of spaces made one
 abbrev pub single_spacing_of : List ℕ → List ℕ
-single_spacing_of cs = single_spaced (before_spaces (after_spaces cs))
-
--- the bytes of a character, behind a space where one is wanted
-abbrev pub character_behind_space : Bool → ℕ → List ℕ
-character_behind_space wanted c = if wanted then 32 ∷ encode_utf8 c else encode_utf8 c
+single_spacing_of cs = with_single_spaces (before_spaces (after_spaces cs))
 
 -- TRIM: the characters with no spaces at the ends and no runs of spaces
 abbrev pub trim_of : List Arg → Value
@@ -170,10 +166,10 @@ abbrev pub find_of : List Arg → Value
 find_of args = on_texts_and_number find_place (text_of (argument args 0)) (text_of (argument args 1)) (number_of (argument_or (values.Num (pos 1)) args 2))
 
 -- the number that a value counts as, where a boolean counts as none
-abbrev pub number_read : Value → Value
-number_read (values.Bool b) = values.Error errors.Value
-number_read v = on_number values.Num (number_of v)
+abbrev pub number_unless_boolean : Value → Value
+number_unless_boolean (values.Bool b) = values.Error errors.Value
+number_unless_boolean v = on_number values.Num (number_of v)
 
 -- VALUE: the number that the argument counts as
 abbrev pub value_function_of : List Arg → Value
-value_function_of args = number_read (argument args 0)
+value_function_of args = number_unless_boolean (argument args 0)

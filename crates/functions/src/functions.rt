@@ -2,6 +2,8 @@ ghost use Rattle.std.specs.Prelude.{◌≡◌};
 ghost use Rattle.std.specs.Option.{option_map};
 ghost use Rattle.functions.specs.Functions.{function_named, arity_of};
 
+use super::limits::MOST_ARGUMENTS;
+
 /// The functions of formulas.
 #[derive(Clone, Copy, Debug, PartialEq, Eq)]
 pub enum Function {
@@ -93,7 +95,7 @@ static ALL: [Function; 40] = [
 
 impl Function {
     ghost use Rattle.std.specs.Prelude.{◌≡◌};
-    ghost use Rattle.functions.specs.Functions.{word_of, function_named, arity_of};
+    ghost use Rattle.functions.specs.Functions.{word_of, function_named, arity_of, takes_area, takes_count};
 
     /// The function of this name.
     pub fn of(name: &str) -> Option<Function>
@@ -172,7 +174,7 @@ impl Function {
             | Function::Max
             | Function::Count
             | Function::CountA
-            | Function::Concatenate => (1, 255),
+            | Function::Concatenate => (1, MOST_ARGUMENTS),
             Function::Not
             | Function::IsNumber
             | Function::IsText
@@ -187,9 +189,35 @@ impl Function {
             | Function::Lower
             | Function::Trim
             | Function::Value => (1, 1),
-            Function::Choose => (2, 255),
+            Function::Choose => (2, MOST_ARGUMENTS),
             Function::Index | Function::Mid => (3, 3),
             Function::Left | Function::Right => (1, 2),
+        }
+    }
+
+    /// Whether the function takes so many arguments.
+    pub fn takes_count(self, count: usize) -> bool
+        ensures { result ≡ takes_count self count }
+    {
+        let (least, most) = self.arity();
+        usize::from(least) <= count && count <= usize::from(most)
+    }
+
+    /// Whether the function takes the values of the area that its argument at this place refers to, counted from 0.
+    pub fn takes_area(self, place: usize) -> bool
+        ensures { result ≡ takes_area self place }
+    {
+        match self {
+            Function::Sum
+            | Function::Product
+            | Function::Min
+            | Function::Max
+            | Function::Count
+            | Function::CountA
+            | Function::And
+            | Function::Or => true,
+            Function::Index => place == 0,
+            _ => false,
         }
     }
 }

@@ -10,7 +10,7 @@ ghost use Rattle.functions.specs.Texts.{all_texts, concatenate_of, exact_of, fou
 use super::arguments::{Arg, number_at, number_or, text_at};
 use super::text_answers::text_value;
 use super::text_parts::{before_place, count_characters, without_first};
-use cell_values::{ErrorKind, Memory, Text, Value, to_text};
+use cell_values::{ErrorKind, LONGEST_TEXT, Memory, Text, Value, to_text};
 use std::alloc::Global;
 
 /// CONCATENATE.
@@ -36,9 +36,7 @@ fn joined(alloc: Global, args: &[Arg]) -> Result<Result<String, ErrorKind>, Memo
             Ok(text) => text,
             Err(kind) => return Ok(Err(kind)),
         };
-        if all.push_str(text.as_str()).is_err() {
-            return Err(Memory);
-        }
+        all.push_str(text.as_str())?;
     }
     Ok(Ok(all))
 }
@@ -96,7 +94,7 @@ fn find_place(pattern: &Text, text: &Text, place: i64) -> Value
 /// The least number of characters, and not under another, behind which a text stands in another.
 fn found_behind(pattern: &Text, text: &Text, least: usize) -> Option<usize>
     ensures found { result ≡ found_behind pattern.now text.now least }
-    ensures bound { IfSome result (λ before. before ≤ 32767) }
+    ensures bound { IfSome result (λ before. before ≤ LONGEST_TEXT) }
 {
     let mut rest = without_first(text.as_str(), least).chars();
     for before in least..count_characters(text.as_str()) + 1 {
