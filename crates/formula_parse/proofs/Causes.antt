@@ -10,8 +10,9 @@ use Rattle.formula_parse.specs.declared.nodes.Node.{Node}
 use Rattle.formula_parse.specs.declared.reader.Reader.{Reader}
 use Rattle.formula_parse.specs.declared.tokens.Token.{Token}
 use Rattle.formula_parse.specs.Faults.{IsUnlimitedFormula, IsTooDeep, IsOverOpen, IsSyntaxPlace, IsShort, IsFormula, IsSyntaxFault, IsRangeFault, IsNumberFault}
-use Rattle.formula_parse.specs.Reading.{tree_at_end, at_end, tree_or_fault, first_reader, read_from, read_text, is_wide_area, is_large_number, is_too_long, parse_result, formula_of}
-use Rattle.formula_parse.specs.Tokens.{IsSpelled, are_spaces}
+use Rattle.formula_parse.specs.ReaderMachine.{tree_at_end, at_end, tree_or_fault, first_reader, read_from, read_text}
+use Rattle.formula_parse.specs.Parsing.{is_too_long, parse_result, formula_of}
+use Rattle.formula_parse.specs.Tokens.{is_wide_area, is_large_number, IsSpelled, are_spaces}
 use Rattle.formula_parse.proofs.Depths.{deep_text, shallow_text, empty_not_over}
 use Rattle.formula_parse.proofs.Outcomes.{Ends, outcome_from}
 use Rattle.formula_parse.proofs.Runs.{read_is_formula, reads_note_areas, reads_note_numbers}
@@ -57,7 +58,7 @@ ends_cause : (front rest : List ℕ) (ts : List Token) (last : Reader) (answer :
 ends_cause front rest ts last answer r (inl whole) = subst (Cause (61 ∷ (front ++ rest))) (sym whole.gives) (end_cause front rest ts last r whole.spaces (tree_at_end last.phase last.frames) refl)
 ends_cause front rest ts last answer r (inr (inl stuck)) =
     let r' = subst (λ x. Reads first_reader front x ts last) stuck.parts r in
-    subst (Cause (61 ∷ (front ++ rest))) (sym stuck.gives) (subst (λ x. Cause (61 ∷ (front ++ x)) (Err (faults.Syntax (1 + length front + length stuck.gap + Rattle.formula_parse.specs.Reading.begun_behind last.phase stuck.stop)))) (sym stuck.parts) (
+    subst (Cause (61 ∷ (front ++ rest))) (sym stuck.gives) (subst (λ x. Cause (61 ∷ (front ++ x)) (Err (faults.Syntax (1 + length front + length stuck.gap + Rattle.formula_parse.specs.ReaderMachine.begun_behind last.phase stuck.stop)))) (sym stuck.parts) (
       shallow_text front (stuck.gap ++ stuck.stop) ts last r' (inr (stuck.gap, stuck.stop, refl, stuck.spaces, stuck.full, stuck.stuck)),
       (λ written tree formula. stuck_is_no_formula front stuck.gap stuck.stop ts written last tree r' stuck.spaces stuck.full stuck.stuck formula),
       stuck_place front stuck.gap stuck.stop ts last r' stuck.spaces stuck.full stuck.stuck,

@@ -11,7 +11,7 @@ use Rattle.formula_parse.specs.declared.reader.OpenChain.{OpenChain}
 use Rattle.formula_parse.specs.declared.tokens.Token.{Token}
 use Rattle.formula_parse.specs.declared.tokens.Token.TheVariants as tokens
 use Rattle.formula_parse.specs.Grammar.{place_of, Written, IsChain, IsWritten}
-use Rattle.formula_parse.specs.Reading.{place_of_chain, chain_node, operand_in_chains, tree_of_chains, chains_with}
+use Rattle.formula_parse.specs.ReaderMachine.{place_of_chain, chain_node, operand_in_chains, tree_of_chains, chains_with}
 use Rattle.formula_parse.proofs.NodeLaws.{chain_is_written}
 use Rattle.formula_parse.proofs.TurnGrammar.{written_from, written_below, place_is_low}
 

@@ -14,7 +14,7 @@ use Rattle.formula_parse.specs.declared.reader.Phase.TheVariants as phases
 use Rattle.formula_parse.specs.declared.tokens.Token.{Token}
 use Rattle.formula_parse.specs.declared.tokens.Token.TheVariants as tokens
 use Rattle.formula_parse.specs.Grammar.{place_of, IsSigned, IsEnclosed, AreArguments, IsChain, IsChainAt, IsWritten}
-use Rattle.formula_parse.specs.Reading.{place_of_chain, chain_node, operand_in_chains, tree_of_chains, chains_with, chains_behind}
+use Rattle.formula_parse.specs.ReaderMachine.{place_of_chain, chain_node, operand_in_chains, tree_of_chains, chains_with, chains_behind}
 use Rattle.formula_parse.proofs.Machine.{ran}
 use Rattle.formula_parse.proofs.NodeLaws.{node_induction, number_is_written, text_is_written, error_is_written, boolean_is_written, reference_is_written, area_is_written, call_is_written, parentheses_is_written, negation_is_written, chain_is_written}
 use Rattle.formula_parse.proofs.ChainLinks.{IsLooser, place_of_more, has_more}
@@ -157,9 +157,9 @@ tree_taken = node_induction AreTaken
     (λ b. token_taken (nodes.Boolean b) (tokens.Boolean b) (λ place written w. written_to (boolean_is_written b) place written w) (λ minuses frames. refl))
     (λ r. token_taken (nodes.Reference r) (tokens.Reference r) (λ place written w. written_to (reference_is_written r) place written w) (λ minuses frames. refl))
     (λ a b. token_taken (nodes.Area a b) (tokens.Area a b) (λ place written w. written_to (area_is_written a b) place written w) (λ minuses frames. refl))
-    (λ name arguments each. operand_taken (nodes.Call name arguments) (λ own. (length arguments ≤ 255) × IsEnclosed (tokens.Call name) (AreArguments (map IsWritten arguments)) own)
-    (λ place written w. few_signed place (length arguments ≤ 255) (IsEnclosed (tokens.Call name) (AreArguments (map IsWritten arguments))) written (written_to (call_is_written name arguments) place written w))
-    (λ own w. call_run name arguments own each w))
+    (λ callee arguments each. operand_taken (nodes.Call callee arguments) (λ own. (length arguments ≤ 255) × IsEnclosed (tokens.Call callee) (AreArguments (map IsWritten arguments)) own)
+    (λ place written w. few_signed place (length arguments ≤ 255) (IsEnclosed (tokens.Call callee) (AreArguments (map IsWritten arguments))) written (written_to (call_is_written callee arguments) place written w))
+    (λ own w. call_run callee arguments own each w))
     (λ inner taken. operand_taken (nodes.Parentheses inner) (IsEnclosed tokens.Open (IsWritten inner 0)) (λ place written w. written_to (parentheses_is_written inner) place written w) (λ own w. parentheses_run inner own taken w))
     (λ count operand taken. record {
       alone = λ written w. absurd (omega (arith, (written_to (negation_is_written count operand) 5 written w).0));

@@ -6,7 +6,7 @@ use Rattle.std.proofs.Math.Utf8.{encodes, encode}
 use Rattle.std.specs.Char.{len_utf8}
 use Rattle.std.specs.Str.{IsUtf8, chars}
 use Rattle.formula_parse.specs.Faults.{IsShort}
-use Rattle.formula_parse.specs.Reading.{is_too_long}
+use Rattle.formula_parse.specs.Parsing.{is_too_long}
 
 few_bytes : (c : ℕ) → len_utf8 c ≤ 4
 few_bytes c = grind (arith, nat_tests)

@@ -7,7 +7,7 @@ use Rattle.formula_parse.specs.declared.nodes.Node.{Node}
 use Rattle.formula_parse.specs.declared.reader.Reader.{Reader}
 use Rattle.formula_parse.specs.declared.tokens.Token.{Token}
 use Rattle.formula_parse.specs.Lexing.{token_at}
-use Rattle.formula_parse.specs.Reading.{Read, Answer, Onward, at_end, tree_at_end, begun_behind, is_too_deep, reader_behind, read_on, read_found, read_token, read_next, gap_len, answer_behind, read_from, first_reader, read_text}
+use Rattle.formula_parse.specs.ReaderMachine.{Read, Answer, Onward, at_end, tree_at_end, begun_behind, is_too_deep, reader_behind, read_on, read_found, read_token, read_next, gap_len, answer_behind, read_from, first_reader, read_text}
 
 -- an answer that isn't that the text is too long
 abbrev IsOther : Result Node ParseFault → Type 0

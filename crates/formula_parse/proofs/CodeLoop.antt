@@ -8,7 +8,7 @@ use Rattle.formula_parse.specs.declared.reader.Reader.{Reader}
 use Rattle.formula_parse.specs.declared.parser.Read.{Read as Told}
 use Rattle.formula_parse.specs.declared.parser.Read.TheVariants.{Formula, Token}
 use Rattle.formula_parse.specs.Turns.{read_of}
-use Rattle.formula_parse.specs.Reading.{Answer, Onward, first_reader, answer_behind, read_from, read_next, read_text}
+use Rattle.formula_parse.specs.ReaderMachine.{Answer, Onward, first_reader, answer_behind, read_from, read_next, read_text}
 
 -- reading begins behind the `=`
 pub begins : (text : List ℕ) (reader : Reader) → (nat_lt 0 (length text) && eqb (get_or text 0 0) 61) ≡ true → reader ≡ first_reader → read_text text ≡ read_from (length text - 0) reader 1 (drop 1 text)

@@ -10,6 +10,8 @@ use Rattle.std.specs.Str.{bytes_eq, IsUtf8}
 use Rattle.cell_refs.specs.Written.{capitals}
 use Rattle.cell_values.specs.Name.{is_name, is_name_byte}
 use Rattle.cell_values.proofs.PublicLaws.{both_true}
+use Rattle.formula_parse.specs.Callees.{callee_named}
+use Rattle.formula_parse.specs.declared.callees.Callee.{Callee}
 use Rattle.formula_parse.specs.declared.tokens.Token.TheVariants as tokens
 use Rattle.formula_parse.specs.Lexing.{word_at, word_found, passes_at}
 
@@ -63,10 +65,10 @@ length_word text len e = ap (λ k. length (take k text)) (e ∙ length-prefix_le
 pub no_call_mark : (mark name : Bool) → mark ≡ false → (mark && name) ≡ false
 no_call_mark mark name e = rw e refl
 
-pub no_call_name : (mark name : Bool) (upper : List ℕ) → None ≡ cond name (Some upper) None → (mark && name) ≡ false
-no_call_name true true upper e = absurd (cc)
-no_call_name true false upper e = refl
-no_call_name false name upper e = refl
+pub no_call_name : (mark name : Bool) (callee : Callee) → None ≡ cond name (Some callee) None → (mark && name) ≡ false
+no_call_name true true callee e = absurd (cc)
+no_call_name true false callee e = refl
+no_call_name false name callee e = refl
 
 second : {A : Type 0} (a b : Bool) (x y z : A) → a ≡ false → b ≡ true → cond a x (cond b y z) ≡ y
 second a b x y z e f = rw (e, f) refl
@@ -84,13 +86,21 @@ true_found text len e call is = word_is text len e ∙ second _ _ _ _ _ (call_of
 pub false_found : (text : List ℕ) (len : ℕ) → len ≡ length (take_while is_name_byte text) → (passes_at (λ b. b == 40) text len && is_name (take len text)) ≡ false → bytes_eq (capitals (take len text)) (codes "TRUE") ≡ false → bytes_eq (capitals (take len text)) (codes "FALSE") ≡ true → word_at text ≡ Some (tokens.Boolean false, 5)
 false_found text len e call other is = word_is text len e ∙ third _ _ _ _ _ _ _ (call_off text len e call) other is
 
--- a word whose upper case is a name, or is none
-pub named : (word upper name : List ℕ) → upper ≡ capitals word → name ≡ upper → is_name upper ≡ true → Some name ≡ cond (is_name word) (Some (capitals word)) None
-named word upper name e f h =
-    let is : is_name word ≡ true = sym (name_capitals word) ∙ (ap is_name (sym e) ∙ h) in
-    rw is (ap Some (f ∙ e))
+-- what a word names, by its upper case
+pub callee_of_capitals : (word upper : List ℕ) → upper ≡ capitals word → cond (is_name upper) (Some (callee_named upper)) None ≡ cond (is_name word) (Some (callee_named (capitals word))) None
+callee_of_capitals word upper e =
+    let is : is_name upper ≡ is_name word = ap is_name e ∙ name_capitals word in
+    ap (λ b. cond b (Some (callee_named upper)) None) is ∙ ap (λ u. cond (is_name word) (Some (callee_named u)) None) e
 
-pub unnamed : (word upper : List ℕ) → upper ≡ capitals word → is_name upper ≡ false → None ≡ cond (is_name word) (Some (capitals word)) None
-unnamed word upper e h =
-    let is : is_name word ≡ false = sym (name_capitals word) ∙ (ap is_name (sym e) ∙ h) in
-    rw is refl
+-- bytes that are no name name nothing
+pub no_callee : (word : List ℕ) → is_name word ≡ false → None ≡ cond (is_name word) (Some (callee_named (capitals word))) None
+no_callee word e = rw e refl
+
+-- a word of over 255 bytes is no name
+pub long_is_no_name : (word : List ℕ) → 255 < length word → is_name word ≡ false
+long_is_no_name [] h = refl
+long_is_no_name (c ∷ cs) h = grind (arith, nat_tests)
+
+-- a word whose upper case isn't UTF-8 is no name
+pub not_name_capitals : (word upper : List ℕ) → upper ≡ capitals word → (IsUtf8 upper → ⊥) → is_name word ≡ false
+not_name_capitals word upper e h = sym (name_capitals word) ∙ (ap is_name (sym e) ∙ not_name upper h)

@@ -8,7 +8,7 @@ use Rattle.formula_parse.specs.declared.faults.ParseFault.TheVariants as faults
 use Rattle.formula_parse.specs.declared.reader.Reader.{Reader}
 use Rattle.formula_parse.specs.declared.tokens.Token.{Token}
 use Rattle.formula_parse.specs.Lexing.{token_at, begun_len}
-use Rattle.formula_parse.specs.Reading.{Answer, Onward, gap_len, read_next, read_token, read_found, read_on, reader_behind, at_end, tree_at_end, begun_behind, awaits_operand, is_too_deep}
+use Rattle.formula_parse.specs.ReaderMachine.{Answer, Onward, gap_len, read_next, read_token, read_found, read_on, reader_behind, at_end, tree_at_end, begun_behind, awaits_operand, is_too_deep}
 
 -- the spaces behind a place, as the code measures them
 pub gap_is : (text bytes : List ℕ) (place gap : ℕ) → bytes ≡ text → gap ≡ gap_len (take (length bytes - place) (drop place bytes)) → gap ≡ gap_len (drop place text)

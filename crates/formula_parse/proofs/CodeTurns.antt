@@ -13,7 +13,8 @@ use Rattle.formula_parse.specs.declared.reader.Phase.TheVariants as phases
 use Rattle.formula_parse.specs.declared.reader.Reader.{Reader}
 use Rattle.formula_parse.specs.declared.tokens.Token.{Token}
 use Rattle.formula_parse.specs.declared.tokens.Token.TheVariants as tokens
-use Rattle.formula_parse.specs.Reading.{Turn, minuses_in, after_operand, operand_turn, empty_call, start_turn, operator_turn, closing, close_turn, with_frame, with_argument, comma_turn, after_turn, tree_of_chains, turn_at, reader_behind, is_wide_area, is_large_number}
+use Rattle.formula_parse.specs.ReaderMachine.{Turn, minuses_in, after_operand, operand_turn, empty_call, start_turn, operator_turn, closing, close_turn, with_frame, with_argument, comma_turn, after_turn, tree_of_chains, turn_at, reader_behind}
+use Rattle.formula_parse.specs.Tokens.{is_wide_area, is_large_number}
 
 -- no more `-` than this
 abbrev IsUpTo : ℕ → Option Turn → Type 0
@@ -31,7 +32,7 @@ at_operand minuses frames (tokens.Error e) = omega arith
 at_operand minuses frames (tokens.Boolean b) = omega arith
 at_operand minuses frames (tokens.Reference r) = omega arith
 at_operand minuses frames (tokens.Area a b) = omega arith
-at_operand minuses frames (tokens.Call name) = omega arith
+at_operand minuses frames (tokens.Call callee) = omega arith
 at_operand minuses frames tokens.Open = omega arith
 at_operand minuses frames tokens.Close = tt
 at_operand minuses frames tokens.Comma = tt
@@ -45,7 +46,7 @@ at_operand minuses frames (tokens.Operator operators.Divide) = tt
 empty_frame : (what : Opened) (minuses calls : ℕ) (chains : List OpenChain) (frames : List Frame) → IsUpTo 1 (empty_call ((record { opened = what; minuses = minuses; calls = calls; chains = chains }) ∷ frames))
 empty_frame opened.Formula minuses calls chains frames = tt
 empty_frame opened.Parentheses minuses calls chains frames = tt
-empty_frame (opened.Call name arguments) minuses calls chains frames = omega arith
+empty_frame (opened.Call callee arguments) minuses calls chains frames = omega arith
 
 at_empty : (frames : List Frame) → IsUpTo 1 (empty_call frames)
 at_empty [] = tt
@@ -58,7 +59,7 @@ at_start frames (tokens.Error e) = omega arith
 at_start frames (tokens.Boolean b) = omega arith
 at_start frames (tokens.Reference r) = omega arith
 at_start frames (tokens.Area a b) = omega arith
-at_start frames (tokens.Call name) = omega arith
+at_start frames (tokens.Call callee) = omega arith
 at_start frames tokens.Open = omega arith
 at_start frames tokens.Close = at_empty frames
 at_start frames tokens.Comma = tt
@@ -87,7 +88,7 @@ at_after operand frames (tokens.Error e) = tt
 at_after operand frames (tokens.Boolean b) = tt
 at_after operand frames (tokens.Reference r) = tt
 at_after operand frames (tokens.Area a b) = tt
-at_after operand frames (tokens.Call name) = tt
+at_after operand frames (tokens.Call callee) = tt
 at_after operand frames tokens.Open = tt
 at_after operand frames tokens.Close = at_close operand frames
 at_after operand frames tokens.Comma = at_comma operand frames

@@ -11,7 +11,7 @@ use Rattle.formula_parse.specs.declared.tokens.Token.{Token}
 use Rattle.formula_parse.specs.declared.tokens.Token.TheVariants as tokens
 use Rattle.formula_parse.specs.Faults.{IsUnlimitedFormula, IsViable}
 use Rattle.formula_parse.specs.Grammar.{IsWritten}
-use Rattle.formula_parse.specs.Reading.{Turn, turn_at, first_reader, awaits_operand}
+use Rattle.formula_parse.specs.ReaderMachine.{Turn, turn_at, first_reader, awaits_operand}
 use Rattle.formula_parse.specs.Tokens.{IsSpelled, Writes, are_spaces, goes_on_with}
 use Rattle.formula_parse.proofs.Machine.{first_turn, ran, ended_behind, is_operand}
 use Rattle.formula_parse.proofs.MachineLaws.{what_is_read_is_written, operands_are_taken, closing_ends}
@@ -52,7 +52,7 @@ operand_turns phases.Start frames (tokens.Error e) turn a o h = inl (ap (λ t. a
 operand_turns phases.Start frames (tokens.Boolean b) turn a o h = inl (ap (λ t. awaits_operand t.0) (sym (same_Some _ turn h)))
 operand_turns phases.Start frames (tokens.Reference r) turn a o h = inl (ap (λ t. awaits_operand t.0) (sym (same_Some _ turn h)))
 operand_turns phases.Start frames (tokens.Area r s) turn a o h = inl (ap (λ t. awaits_operand t.0) (sym (same_Some _ turn h)))
-operand_turns phases.Start frames (tokens.Call name) turn a o h = inr (ap (λ t. t.0) (sym (same_Some _ turn h)))
+operand_turns phases.Start frames (tokens.Call callee) turn a o h = inr (ap (λ t. t.0) (sym (same_Some _ turn h)))
 operand_turns phases.Start frames tokens.Open turn a o h = cc
 operand_turns phases.Start frames tokens.Close turn a o h = cc
 operand_turns phases.Start frames tokens.Comma turn a o h = cc
@@ -63,7 +63,7 @@ operand_turns (phases.Signs minuses) frames (tokens.Error e) turn a o h = inl (a
 operand_turns (phases.Signs minuses) frames (tokens.Boolean b) turn a o h = inl (ap (λ t. awaits_operand t.0) (sym (same_Some _ turn h)))
 operand_turns (phases.Signs minuses) frames (tokens.Reference r) turn a o h = inl (ap (λ t. awaits_operand t.0) (sym (same_Some _ turn h)))
 operand_turns (phases.Signs minuses) frames (tokens.Area r s) turn a o h = inl (ap (λ t. awaits_operand t.0) (sym (same_Some _ turn h)))
-operand_turns (phases.Signs minuses) frames (tokens.Call name) turn a o h = inr (ap (λ t. t.0) (sym (same_Some _ turn h)))
+operand_turns (phases.Signs minuses) frames (tokens.Call callee) turn a o h = inr (ap (λ t. t.0) (sym (same_Some _ turn h)))
 operand_turns (phases.Signs minuses) frames tokens.Open turn a o h = cc
 operand_turns (phases.Signs minuses) frames tokens.Close turn a o h = cc
 operand_turns (phases.Signs minuses) frames tokens.Comma turn a o h = cc

@@ -13,7 +13,7 @@ use Rattle.formula_parse.specs.declared.tokens.Token.TheVariants as tokens
 use Rattle.formula_parse.specs.Faults.{IsUnlimitedFormula, IsTooDeep, IsOverOpen, open_behind}
 use Rattle.formula_parse.specs.Grammar.{IsWritten}
 use Rattle.formula_parse.specs.Lexing.{token_at}
-use Rattle.formula_parse.specs.Reading.{Turn, reader_behind, first_reader, awaits_operand, is_too_deep, calls_open}
+use Rattle.formula_parse.specs.ReaderMachine.{Turn, reader_behind, first_reader, awaits_operand, is_too_deep, calls_open}
 use Rattle.formula_parse.specs.Tokens.{IsSpelled, Writes, are_spaces, goes_on, goes_on_with}
 use Rattle.formula_parse.proofs.Completing.{closes, closed_behind, operand_closed, one_written, closes_end, closes_spell, gap_closes_spell}
 use Rattle.formula_parse.proofs.LexingLaws.{written_is_found}
@@ -137,7 +137,7 @@ opens_nothing (tokens.Error e) b outer h = refl
 opens_nothing (tokens.Boolean v) b outer h = refl
 opens_nothing (tokens.Reference r) b outer h = refl
 opens_nothing (tokens.Area first second) b outer h = refl
-opens_nothing (tokens.Call name) b outer h = cc
+opens_nothing (tokens.Call callee) b outer h = cc
 opens_nothing tokens.Open b outer h = cc
 opens_nothing tokens.Close b outer h = cc
 opens_nothing tokens.Comma b outer h = cc
@@ -152,7 +152,7 @@ open_on (tokens.Error e ∷ ts) us outer = open_on ts us outer
 open_on (tokens.Boolean v ∷ ts) us outer = open_on ts us outer
 open_on (tokens.Reference r ∷ ts) us outer = open_on ts us outer
 open_on (tokens.Area first second ∷ ts) us outer = open_on ts us outer
-open_on (tokens.Call name ∷ ts) us outer = open_on ts us (true ∷ outer)
+open_on (tokens.Call callee ∷ ts) us outer = open_on ts us (true ∷ outer)
 open_on (tokens.Open ∷ ts) us outer = open_on ts us (false ∷ outer)
 open_on (tokens.Close ∷ ts) us outer = open_on ts us (drop 1 outer)
 open_on (tokens.Comma ∷ ts) us outer = open_on ts us outer

@@ -9,6 +9,8 @@ use Rattle.cell_refs.specs.declared.references.RefText.{RefText}
 use Rattle.cell_refs.specs.Written.{capitals, reference_at}
 use Rattle.cell_values.specs.declared.errors.ErrorKind.{ErrorKind}
 use Rattle.cell_values.specs.Name.{is_name}
+use Rattle.formula_parse.specs.declared.callees.Callee.{Callee}
+use Rattle.formula_parse.specs.Callees.{callee_named}
 use Rattle.formula_parse.specs.declared.tokens.Token.{Token}
 use Rattle.formula_parse.specs.declared.tokens.Token.TheVariants as tokens
 use Rattle.formula_parse.specs.Lexing.{token_at, begun_len, error_begun, word_begun, name_begun, reference_begun, corner_begun}
@@ -107,7 +109,7 @@ greatest_of a b c = ⊎_elim
 -- the front of a word goes on to a call, a reference or an area
 word_goes_on : (text : List ℕ) → 0 < word_begun text → GoesOn text (word_begun text)
 word_goes_on text some = ⊎_elim
-    (λ e. subst (λ n. GoesOn text n) (sym e) (40 ∷ [], tokens.Call (capitals (take (name_begun text) text)), refl, name_goes_on text (omega arith)))
+    (λ e. subst (λ n. GoesOn text n) (sym e) (40 ∷ [], tokens.Call (callee_named (capitals (take (name_begun text) text))), refl, name_goes_on text (omega arith)))
     (λ other. ⊎_elim
     (λ e. let p = reference_goes_on text in subst (λ n. GoesOn text n) (sym e) (p.0, tokens.Reference p.1, refl, p.2))
     (λ e. let p = area_goes_on text (reference_at text) refl (omega arith) in subst (λ n. GoesOn text n) (sym e) (p.0, tokens.Area p.1 p.2, refl, p.3))
@@ -164,8 +166,8 @@ area_first r s b bs w =
     ap begins_word same ∙ f.3
 
 -- a call begins a word
-pub call_first : (name : List ℕ) (b : ℕ) (bs : List ℕ) → Writes (b ∷ bs) (tokens.Call name) → begins_word b ≡ true
-call_first name b bs w = first_letter b bs w.0 (40 ∷ []) w.1 w.2
+pub call_first : (callee : Callee) (b : ℕ) (bs : List ℕ) → Writes (b ∷ bs) (tokens.Call callee) → begins_word b ≡ true
+call_first callee b bs w = first_letter b bs w.0 (40 ∷ []) w.1 w.2
 
 -- the first byte of a written text
 pub text_first : (t : List ℕ) (b : ℕ) (bs : List ℕ) → Writes (b ∷ bs) (tokens.Text t) → b ≡ 34
@@ -204,8 +206,8 @@ operand_most b rest more (tokens.Reference r) k o none inside w =
     word_stops b rest (suc k) (reference_first r b (take k rest ++ more) w) (inl (reference_most (b ∷ rest) more r (suc k) inside p.0 p.1))
 operand_most b rest more (tokens.Area r s) k o none inside w =
     word_stops b rest (suc k) (area_first r s b (take k rest ++ more) w) (area_most (b ∷ rest) more r s (suc k) inside w)
-operand_most b rest more (tokens.Call name) k o none inside w =
-    word_stops b rest (suc k) (call_first name b (take k rest ++ more) w) (inl (inl (call_most b rest more name k none inside w)))
+operand_most b rest more (tokens.Call callee) k o none inside w =
+    word_stops b rest (suc k) (call_first callee b (take k rest ++ more) w) (inl (inl (call_most b rest more callee k none inside w)))
 operand_most b rest more tokens.Open k o none inside w = absurd (cc)
 operand_most b rest more tokens.Close k o none inside w = absurd (cc)
 operand_most b rest more tokens.Comma k o none inside w = absurd (cc)

@@ -9,6 +9,8 @@ use Rattle.std.specs.Char.{is_ascii_alphabetic, is_ascii_uppercase, to_ascii_upp
 use Rattle.std.specs.List.{list_all}
 use Rattle.cell_refs.specs.Written.{capitals}
 use Rattle.cell_values.specs.Name.{is_name, is_name_byte}
+use Rattle.formula_parse.specs.declared.callees.Callee.{Callee}
+use Rattle.formula_parse.specs.Callees.{callee_named}
 use Rattle.formula_parse.specs.declared.tokens.Token.{Token}
 use Rattle.formula_parse.specs.declared.tokens.Token.TheVariants as tokens
 use Rattle.formula_parse.specs.Lexing.{token_at, name_begun}
@@ -34,7 +36,7 @@ front_is_name b bs (suc k) l some few short =
     word_is_name b (take k bs) l (short_passes is_name_byte (b ∷ bs) (suc k) short) (omega arith)
 
 -- the front of a name goes on to a call
-pub name_goes_on : (text : List ℕ) → 0 < name_begun text → Writes (take (name_begun text) text ++ 40 ∷ []) (tokens.Call (capitals (take (name_begun text) text)))
+pub name_goes_on : (text : List ℕ) → 0 < name_begun text → Writes (take (name_begun text) text ++ 40 ∷ []) (tokens.Call (callee_named (capitals (take (name_begun text) text))))
 name_goes_on [] h = absurd (omega arith)
 name_goes_on (b ∷ bs) h = ⊎_elim
     (λ l.
@@ -106,11 +108,11 @@ bracket (c ∷ cs) more (suc n) h e some = let first : c ≡ 40 = cc in (cs, ap 
 call_stands : (text written rest : List ℕ) → text ≡ written ++ 40 ∷ rest → is_name written ≡ true → token_at text ≡ None → ⊥
 call_stands text written rest e h none =
     let found = call_written written rest h in
-    none-some {A = Token × ℕ} (tokens.Call (capitals written), length (written ++ 40 ∷ [])) (sym none ∙ (ap token_at (e ∙ sym (append_assoc written (40 ∷ []) rest)) ∙ found))
+    none-some {A = Token × ℕ} (tokens.Call (callee_named (capitals written)), length (written ++ 40 ∷ [])) (sym none ∙ (ap token_at (e ∙ sym (append_assoc written (40 ∷ []) rest)) ∙ found))
 
 -- no call goes on with more than a name, where none stands whole
-pub call_most : (b : ℕ) (bs more name : List ℕ) (k : ℕ) → token_at (b ∷ bs) ≡ None → suc k ≤ length (b ∷ bs) → Writes (take (suc k) (b ∷ bs) ++ more) (tokens.Call name) → suc k ≤ name_begun (b ∷ bs)
-call_most b bs more name k none inside w =
+pub call_most : (b : ℕ) (bs more : List ℕ) (callee : Callee) (k : ℕ) → token_at (b ∷ bs) ≡ None → suc k ≤ length (b ∷ bs) → Writes (take (suc k) (b ∷ bs) ++ more) (tokens.Call callee) → suc k ≤ name_begun (b ∷ bs)
+call_most b bs more callee k none inside w =
     let text = b ∷ bs in
     let written = w.0 in
     let p = name_parts written w.2 in

@@ -43,8 +43,8 @@ token_written piece rest (tokens.Area a b) w s =
     let p = piece_refers w.0 a w.3 in
     let q = piece_refers w.1 b w.4 in
     subst (λ x. token_at (x ++ rest) ≡ Some (tokens.Area a b, length x)) (sym w.2) (area_written w.0 w.1 rest a b p.0 p.1 q.0 q.1 w.5 s)
-token_written piece rest (tokens.Call name) w s =
-    subst (λ x. token_at (x ++ rest) ≡ Some (tokens.Call name, length x)) (sym w.1) (call_written w.0 rest w.2 ∙ ap (λ x. Some (tokens.Call x, length (w.0 ++ 40 ∷ []))) (sym w.3))
+token_written piece rest (tokens.Call callee) w s =
+    subst (λ x. token_at (x ++ rest) ≡ Some (tokens.Call callee, length x)) (sym w.1) (call_written w.0 rest w.2 ∙ ap (λ x. Some (tokens.Call x, length (w.0 ++ 40 ∷ []))) (sym w.3))
 token_written piece rest tokens.Open w s = subst (λ x. token_at (x ++ rest) ≡ Some (tokens.Open, length x)) (sym w) (open_written rest)
 token_written piece rest tokens.Close w s = subst (λ x. token_at (x ++ rest) ≡ Some (tokens.Close, length x)) (sym w) (close_written rest)
 token_written piece rest tokens.Comma w s = subst (λ x. token_at (x ++ rest) ≡ Some (tokens.Comma, length x)) (sym w) (comma_written rest)

@@ -10,7 +10,7 @@ use Rattle.formula_parse.specs.declared.reader.Phase.TheVariants as phases
 use Rattle.formula_parse.specs.declared.tokens.Token.{Token}
 use Rattle.formula_parse.specs.declared.tokens.Token.TheVariants as tokens
 use Rattle.formula_parse.specs.Lexing.{token_at, begun_len}
-use Rattle.formula_parse.specs.Reading.{turn_at, awaits_operand, operand_turn, start_turn}
+use Rattle.formula_parse.specs.ReaderMachine.{turn_at, awaits_operand, operand_turn, start_turn}
 use Rattle.formula_parse.specs.Tokens.{Writes, operator_text}
 use Rattle.formula_parse.proofs.Machine.{is_operand}
 use Rattle.formula_parse.proofs.LexBegun.{operand_most, boolean_first, reference_first, area_first, call_first, text_first}
@@ -29,7 +29,7 @@ operand_taken minuses frames (tokens.Error kind) o h = cc
 operand_taken minuses frames (tokens.Boolean v) o h = cc
 operand_taken minuses frames (tokens.Reference r) o h = cc
 operand_taken minuses frames (tokens.Area r q) o h = cc
-operand_taken minuses frames (tokens.Call name) o h = cc
+operand_taken minuses frames (tokens.Call callee) o h = cc
 operand_taken minuses frames tokens.Open o h = cc
 operand_taken minuses frames tokens.Close o h = cc
 operand_taken minuses frames tokens.Comma o h = cc
@@ -43,7 +43,7 @@ start_is frames (tokens.Error kind) o = refl
 start_is frames (tokens.Boolean v) o = refl
 start_is frames (tokens.Reference r) o = refl
 start_is frames (tokens.Area r q) o = refl
-start_is frames (tokens.Call name) o = refl
+start_is frames (tokens.Call callee) o = refl
 start_is frames tokens.Open o = absurd (cc)
 start_is frames tokens.Close o = absurd (cc)
 start_is frames tokens.Comma o = absurd (cc)
@@ -104,7 +104,7 @@ written_kind (tokens.Error kind) piece left b rest e w = inr refl
 written_kind (tokens.Boolean v) piece left b rest e w = inr refl
 written_kind (tokens.Reference r) piece left b rest e w = inr refl
 written_kind (tokens.Area r q) piece left b rest e w = inr refl
-written_kind (tokens.Call name) piece left b rest e w = inr refl
+written_kind (tokens.Call callee) piece left b rest e w = inr refl
 written_kind tokens.Open piece left b rest e w = inl (subst IsMark (sym (mark_at_first b 40 rest left piece e w)) is_open)
 written_kind tokens.Close piece left b rest e w = inl (subst IsMark (sym (mark_at_first b 41 rest left piece e w)) is_close)
 written_kind tokens.Comma piece left b rest e w = inl (subst IsMark (sym (mark_at_first b 44 rest left piece e w)) is_comma)
@@ -122,7 +122,7 @@ operand_no_mark (tokens.Error kind) b bs o w m = no_both _ m.no_hash (ap (λ c. 
 operand_no_mark (tokens.Boolean v) b bs o w m = no_both _ m.no_word (boolean_first v b bs w)
 operand_no_mark (tokens.Reference r) b bs o w m = no_both _ m.no_word (reference_first r b bs w)
 operand_no_mark (tokens.Area r q) b bs o w m = no_both _ m.no_word (area_first r q b bs w)
-operand_no_mark (tokens.Call name) b bs o w m = no_both _ m.no_word (call_first name b bs w)
+operand_no_mark (tokens.Call callee) b bs o w m = no_both _ m.no_word (call_first callee b bs w)
 operand_no_mark tokens.Open b bs o w m = never_both o
 operand_no_mark tokens.Close b bs o w m = never_both o
 operand_no_mark tokens.Comma b bs o w m = never_both o
@@ -157,7 +157,7 @@ no_longer_stands c cs left phase frames (tokens.Error kind) k is a s inside w = 
 no_longer_stands c cs left phase frames (tokens.Boolean v) k is a s inside w = absurd (operand_refused c cs left phase frames (tokens.Boolean v) k is a s inside w refl (token_at (c ∷ cs)) refl)
 no_longer_stands c cs left phase frames (tokens.Reference r) k is a s inside w = absurd (operand_refused c cs left phase frames (tokens.Reference r) k is a s inside w refl (token_at (c ∷ cs)) refl)
 no_longer_stands c cs left phase frames (tokens.Area r q) k is a s inside w = absurd (operand_refused c cs left phase frames (tokens.Area r q) k is a s inside w refl (token_at (c ∷ cs)) refl)
-no_longer_stands c cs left phase frames (tokens.Call name) k is a s inside w = absurd (operand_refused c cs left phase frames (tokens.Call name) k is a s inside w refl (token_at (c ∷ cs)) refl)
+no_longer_stands c cs left phase frames (tokens.Call callee) k is a s inside w = absurd (operand_refused c cs left phase frames (tokens.Call callee) k is a s inside w refl (token_at (c ∷ cs)) refl)
 no_longer_stands c cs left phase frames tokens.Open k is a s inside w = s tokens.Open 1 (ap (λ b. token_at (b ∷ cs)) (first_of c 40 (take k cs ++ left) w) ∙ open_written cs)
 no_longer_stands c cs left phase frames tokens.Close k is a s inside w = s tokens.Close 1 (ap (λ b. token_at (b ∷ cs)) (first_of c 41 (take k cs ++ left) w) ∙ close_written cs)
 no_longer_stands c cs left phase frames tokens.Comma k is a s inside w = s tokens.Comma 1 (ap (λ b. token_at (b ∷ cs)) (first_of c 44 (take k cs ++ left) w) ∙ comma_written cs)

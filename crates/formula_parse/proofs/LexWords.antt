@@ -12,6 +12,7 @@ use Rattle.cell_refs.specs.declared.references.RefText.{RefText}
 use Rattle.cell_refs.specs.Written.{capitals, reference_at}
 use Rattle.cell_refs.proofs.PublicLaws.{front_and_rest, rest_stops}
 use Rattle.cell_values.specs.Name.{is_name, is_name_byte}
+use Rattle.formula_parse.specs.Callees.{callee_named}
 use Rattle.formula_parse.specs.declared.tokens.Token.{Token}
 use Rattle.formula_parse.specs.declared.tokens.Token.TheVariants as tokens
 use Rattle.formula_parse.specs.Lexing.{token_at, word_found, reference_found, area_behind, passes_at}
@@ -78,7 +79,7 @@ word_of text = record {
 
 -- ---- calls and booleans
 -- a call stands where it is found
-call_found : (text word : List ℕ) (w : Word text word) → (passes_at (λ b. eqb b 40) text (length word) && is_name word) ≡ true → Found text (tokens.Call (capitals word)) (length word + 1)
+call_found : (text word : List ℕ) (w : Word text word) → (passes_at (λ b. eqb b 40) text (length word) && is_name word) ≡ true → Found text (tokens.Call (callee_named (capitals word))) (length word + 1)
 call_found text word w h =
     let p = and_parts _ _ h in
     let bracket = first_is 40 w.after (sym (passes_split (λ b. eqb b 40) text word w.after (length word) w.whole refl) ∙ p.0) in
@@ -189,7 +190,7 @@ false_word word h = (bytes_eq-Decides (capitals word) (codes "FALSE")).0 h
 -- what a word comes to stands where it is found
 word_from : (text word : List ℕ) (token : Token) (len : ℕ) → Word text word → word_found text word ≡ Some (token, len) → Found text token len
 word_from text word token len w h =
-    ⊎_elim (λ y. found_as text (tokens.Call (capitals word)) token (length word + 1) len y.1 (call_found text word w y.0))
+    ⊎_elim (λ y. found_as text (tokens.Call (callee_named (capitals word))) token (length word + 1) len y.1 (call_found text word w y.0))
     (λ n. ⊎_elim (λ y. let e = true_word word y.0 in found_as text (tokens.Boolean true) token 4 len y.1 (boolean_found text word w true 4 n.0 e refl (boolean_is_name word (codes "RUE") 84 e (omega arith) (omega arith) (omega arith) w.all) (omega arith)))
     (λ m. ⊎_elim (λ y. let e = false_word word y.0 in found_as text (tokens.Boolean false) token 5 len y.1 (boolean_found text word w false 5 n.0 e refl (boolean_is_name word (codes "ALSE") 70 e (omega arith) (omega arith) (omega arith) w.all) (omega arith)))
     (λ k. reference_some text token len (reference_at text) refl k.1)

@@ -14,6 +14,7 @@ use Rattle.cell_refs.specs.RefText.{IsReference}
 use Rattle.cell_refs.specs.Written.{capitals, reference_at}
 use Rattle.cell_refs.proofs.PublicLaws.{reference_capitals, nothing_read, take_while-append, front_and_rest}
 use Rattle.cell_values.specs.Name.{is_name, is_name_byte}
+use Rattle.formula_parse.specs.Callees.{callee_named}
 use Rattle.formula_parse.specs.declared.tokens.Token.{Token}
 use Rattle.formula_parse.specs.declared.tokens.Token.TheVariants as tokens
 use Rattle.formula_parse.specs.Lexing.{token_at, word_at, word_found, reference_found, area_behind, passes_at}
@@ -33,7 +34,7 @@ word_there b bs rest l all ends =
     ∙ ap (word_found (b ∷ bs ++ rest)) (take_while-append is_name_byte (b ∷ bs) rest refl all (passes_first is_name_byte rest refl ∙ ends))
 
 -- a name and a `(` are found
-name_there : (written rest : List ℕ) → is_name written ≡ true → token_at (written ++ 40 ∷ rest) ≡ Some (tokens.Call (capitals written), length written + 1)
+name_there : (written rest : List ℕ) → is_name written ≡ true → token_at (written ++ 40 ∷ rest) ≡ Some (tokens.Call (callee_named (capitals written)), length written + 1)
 name_there [] rest h = absurd (cc)
 name_there (b ∷ bs) rest h =
     let p = and_parts (is_ascii_alphabetic b) _ h in
@@ -42,10 +43,10 @@ name_there (b ∷ bs) rest h =
     ∙ cond-true _ _ _ (and_from _ _ (passes_seam (λ b. eqb b 40) (b ∷ bs) (40 ∷ rest)) h)
 
 -- the call that is written is found
-pub call_written : (written rest : List ℕ) → is_name written ≡ true → token_at ((written ++ 40 ∷ []) ++ rest) ≡ Some (tokens.Call (capitals written), length (written ++ 40 ∷ []))
+pub call_written : (written rest : List ℕ) → is_name written ≡ true → token_at ((written ++ 40 ∷ []) ++ rest) ≡ Some (tokens.Call (callee_named (capitals written)), length (written ++ 40 ∷ []))
 call_written written rest h =
     let count : length written + 1 ≡ length (written ++ 40 ∷ []) = omega (arith, length-append written (40 ∷ [])) in
-    ap token_at (append_assoc written (40 ∷ []) rest) ∙ (name_there written rest h ∙ ap (λ n. Some (tokens.Call (capitals written), n)) count)
+    ap token_at (append_assoc written (40 ∷ []) rest) ∙ (name_there written rest h ∙ ap (λ n. Some (tokens.Call (callee_named (capitals written)), n)) count)
 
 -- ---- booleans
 -- what is a capital letter in upper case is a letter, and can stand in a name

@@ -11,7 +11,7 @@ use Rattle.formula_parse.specs.declared.operators.Operator.{Operator}
 use Rattle.formula_parse.specs.declared.tokens.Token.{Token}
 use Rattle.formula_parse.specs.declared.tokens.Token.TheVariants as tokens
 use Rattle.formula_parse.specs.Lexing.{token_at, begun_len}
-use Rattle.formula_parse.specs.Reading.{turn_at, awaits_operand, operator_turn}
+use Rattle.formula_parse.specs.ReaderMachine.{turn_at, awaits_operand, operator_turn}
 use Rattle.formula_parse.specs.Tokens.{Writes, goes_on, goes_on_with}
 use Rattle.formula_parse.proofs.Machine.{is_operand}
 use Rattle.formula_parse.proofs.LexBegun.{begun_within, goes_on_to_operand}
@@ -102,7 +102,7 @@ no_operator_goes_on (c ∷ cs) rest piece more operand frames (tokens.Error k) s
 no_operator_goes_on (c ∷ cs) rest piece more operand frames (tokens.Boolean v) s l e w = refl
 no_operator_goes_on (c ∷ cs) rest piece more operand frames (tokens.Reference r) s l e w = refl
 no_operator_goes_on (c ∷ cs) rest piece more operand frames (tokens.Area a b) s l e w = refl
-no_operator_goes_on (c ∷ cs) rest piece more operand frames (tokens.Call name) s l e w = refl
+no_operator_goes_on (c ∷ cs) rest piece more operand frames (tokens.Call callee) s l e w = refl
 no_operator_goes_on (c ∷ cs) rest piece more operand frames tokens.Open s l e w = refl
 no_operator_goes_on (c ∷ cs) rest piece more operand frames tokens.Close s l e w =
     let first : c ≡ 41 = cc in s tokens.Close 1 (ap (λ b. token_at (b ∷ cs)) first ∙ close_written cs)

@@ -1,4 +1,5 @@
 -- Lemmas of this crate.
+mod CalleeLaws
 mod Causes
 mod ChainLinks
 mod ChainTaken
@@ -59,6 +60,7 @@ mod PrintedThinned
 mod PrintedWritten
 mod Printing
 mod Runs
+mod SiteLaws
 mod SyntaxPlaces
 mod TokenReads
 mod TurnCloses

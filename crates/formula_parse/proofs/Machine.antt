@@ -5,7 +5,7 @@ use Rattle.formula_parse.specs.declared.reader.Opened.TheVariants as opened
 use Rattle.formula_parse.specs.declared.reader.Phase.TheVariants as phases
 use Rattle.formula_parse.specs.declared.tokens.Token.{Token}
 use Rattle.formula_parse.specs.declared.tokens.Token.TheVariants as tokens
-use Rattle.formula_parse.specs.Reading.{Turn, turn_at, tree_at_end}
+use Rattle.formula_parse.specs.ReaderMachine.{Turn, turn_at, tree_at_end}
 
 -- the turn behind the `=` of a formula
 abbrev pub first_turn : Turn
@@ -28,5 +28,5 @@ is_operand (tokens.Error e) = true
 is_operand (tokens.Boolean b) = true
 is_operand (tokens.Reference r) = true
 is_operand (tokens.Area a b) = true
-is_operand (tokens.Call name) = true
+is_operand (tokens.Call callee) = true
 is_operand other = false

@@ -9,7 +9,7 @@ use Rattle.formula_parse.specs.declared.tokens.Token.{Token}
 use Rattle.formula_parse.specs.declared.tokens.Token.TheVariants as tokens
 use Rattle.formula_parse.specs.Faults.{open_behind}
 use Rattle.formula_parse.specs.Grammar.{IsWritten}
-use Rattle.formula_parse.specs.Reading.{Turn, turn_at, awaits_operand, calls_open}
+use Rattle.formula_parse.specs.ReaderMachine.{Turn, turn_at, awaits_operand, calls_open}
 use Rattle.formula_parse.proofs.Machine.{first_turn, ran, ended_behind, is_operand}
 use Rattle.formula_parse.proofs.ChainTaken.{tree_taken}
 use Rattle.formula_parse.proofs.TurnCloses.{turn_ends}

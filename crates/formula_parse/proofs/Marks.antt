@@ -7,6 +7,7 @@ use Rattle.cell_refs.specs.Written.{reference_at, capitals}
 use Rattle.cell_values.specs.declared.errors.ErrorKind.{ErrorKind}
 use Rattle.cell_values.specs.Error.{error_word}
 use Rattle.cell_values.specs.Name.{is_name_byte}
+use Rattle.formula_parse.specs.Callees.{callee_named}
 use Rattle.formula_parse.specs.declared.tokens.Token.{Token}
 use Rattle.formula_parse.specs.declared.tokens.Token.TheVariants as tokens
 use Rattle.formula_parse.specs.Lexing.{token_at, begun_len, number_at, text_behind, text_found, content_at, error_at, word_at, word_found, reference_found, area_behind, mark_at, all_errors, begins_with}
@@ -49,7 +50,7 @@ reference_operand text (Some found) =
 
 word_operand : (text word : List ℕ) → IsOperandIf (word_found text word)
 word_operand text word =
-    either_operand _ (Some (tokens.Call (capitals word), length word + 1)) _ (some_operand (tokens.Call (capitals word), length word + 1) refl)
+    either_operand _ (Some (tokens.Call (callee_named (capitals word)), length word + 1)) _ (some_operand (tokens.Call (callee_named (capitals word)), length word + 1) refl)
     (either_operand _ (Some (tokens.Boolean true, 4)) _ (some_operand (tokens.Boolean true, 4) refl)
     (either_operand _ (Some (tokens.Boolean false, 5)) (reference_found text (reference_at text)) (some_operand (tokens.Boolean false, 5) refl) (reference_operand text (reference_at text))))
 

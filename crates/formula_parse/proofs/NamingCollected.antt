@@ -5,8 +5,8 @@ use Rattle.std.proofs.lemmas.Grind.{flat_map-append}
 use Rattle.std.proofs.lemmas.List.Elements.{All-head, All-tail}
 use Rattle.cell_refs.specs.declared.references.RefText.{RefText}
 use Rattle.cell_values.specs.declared.errors.ErrorKind.{ErrorKind}
-use Rattle.cell_values.specs.declared.names.Name.{Name}
 use Rattle.cell_values.specs.declared.texts.Text.{Text}
+use Rattle.formula_parse.specs.declared.callees.Callee.{Callee}
 use Rattle.formula_parse.specs.declared.nodes.Node.{Node}
 use Rattle.formula_parse.specs.declared.nodes.Node.TheVariants as nodes
 use Rattle.formula_parse.specs.declared.operators.Operator.{Operator}
@@ -32,7 +32,7 @@ pub record Follows (A : Type 0) (f : Token → List A) (F : Node → List A) : T
   pub boolean : (b : Bool) → F (nodes.Boolean b) ≡ f (tokens.Boolean b)
   pub reference : (r : RefText) → F (nodes.Reference r) ≡ f (tokens.Reference r)
   pub area : (a b : RefText) → F (nodes.Area a b) ≡ f (tokens.Area a b)
-  pub call : (name : Name) (arguments : List Node) → F (nodes.Call name arguments) ≡ f (tokens.Call name) ++ concat (map F arguments)
+  pub call : (callee : Callee) (arguments : List Node) → F (nodes.Call callee arguments) ≡ f (tokens.Call callee) ++ concat (map F arguments)
   pub parentheses : (inner : Node) → F (nodes.Parentheses inner) ≡ F inner
   pub negation : (count : ℕ) (operand : Node) → F (nodes.Negation count operand) ≡ F operand
   pub chain : (operands : List Node) (ops : List Operator) → F (nodes.Chain operands ops) ≡ concat (map F operands)
@@ -104,7 +104,7 @@ module _ (A : Type 0) (f : Token → List A) (F : Node → List A) (none : Gives
       (λ b place written w. follows.boolean b ∙ signed_gives place 0 _ written _ (one_gives (tokens.Boolean b)) (subst (λ (W : Written). W place written) (boolean_is_written b) w))
       (λ r place written w. follows.reference r ∙ signed_gives place 0 _ written _ (one_gives (tokens.Reference r)) (subst (λ (W : Written). W place written) (reference_is_written r) w))
       (λ a b place written w. follows.area a b ∙ signed_gives place 0 _ written _ (one_gives (tokens.Area a b)) (subst (λ (W : Written). W place written) (area_is_written a b) w))
-      (λ name arguments all place written w. follows.call name arguments ∙ signed_gives place 0 _ written _ (λ operand. enclosed_gives (tokens.Call name) _ operand _ (λ inner. arguments_give arguments inner all)) (subst (λ (W : Written). W place written) (call_is_written name arguments) w).1)
+      (λ callee arguments all place written w. follows.call callee arguments ∙ signed_gives place 0 _ written _ (λ operand. enclosed_gives (tokens.Call callee) _ operand _ (λ inner. arguments_give arguments inner all)) (subst (λ (W : Written). W place written) (call_is_written callee arguments) w).1)
       (λ inner own place written w. follows.parentheses inner ∙ signed_gives place 0 _ written _ (λ operand e. ap (λ ys. ys ++ F inner) (sym none.opening) ∙ enclosed_gives tokens.Open _ operand (F inner) (own 0) e) (subst (λ (W : Written). W place written) (parentheses_is_written inner) w))
       (λ count operand own place written w. follows.negation count operand ∙ signed_gives place count _ written _ (own 5) (subst (λ (W : Written). W place written) (negation_is_written count operand) w).2)
       (λ operands ops all place written w. follows.chain operands ops ∙ chain_at_gives place operands ops written all (subst (λ (W : Written). W place written) (chain_is_written operands ops) w))

@@ -7,14 +7,16 @@ use Rattle.cell_refs.specs.Area.{IsArea, area_of, size_of}
 use Rattle.cell_refs.specs.RefText.{IsReference}
 use Rattle.cell_refs.specs.declared.areas.Area.{Area}
 use Rattle.cell_refs.specs.declared.references.RefText.{RefText}
+use Rattle.formula_parse.specs.declared.callees.Callee.{Callee}
 use Rattle.formula_parse.specs.declared.nodes.Node.{Node}
 use Rattle.formula_parse.specs.declared.tokens.Token.{Token}
 use Rattle.formula_parse.specs.declared.tokens.Token.TheVariants as tokens
 use Rattle.formula_parse.specs.Faults.{IsFormula}
-use Rattle.formula_parse.specs.Reading.{is_wide_area}
-use Rattle.formula_parse.specs.Tree.{IsTree, areas_named, areas_step, calls_step, is_built_in, site_count, sites_named}
+use Rattle.formula_parse.specs.Tokens.{is_wide_area}
+use Rattle.formula_parse.specs.Tree.{IsTree, areas_named, areas_step, calls_of, calls_step, site_count}
 use Rattle.formula_parse.proofs.NamingCollected.{GivesNothing, Follows, collected}
 use Rattle.formula_parse.proofs.NamingTokens.{Each, each_fails, each_spelled, StandsInside, written_inside, tokens_are_few, short_text}
+use Rattle.formula_parse.proofs.SiteLaws.{sites_are_calls}
 use Rattle.formula_parse.proofs.NodeLaws.{fold_number, fold_text, fold_error, fold_boolean, fold_reference, fold_area, fold_call, fold_parentheses, fold_negation, fold_chain}
 
 -- ---- areas
@@ -97,49 +99,39 @@ named_inside tree home t low high =
     subst (All IsArea) (sym (areas_of_tokens t.0 tree home t.1)) (areas_inside home t.1.written low high (each_spelled StandsInside written_inside t.1.formula.rest t.1.written t.1.formula.spelled))
 
 -- ---- calls
--- the names of a token that are neither built in nor `RTD`
-abbrev token_sites : Token → List (List ℕ)
-token_sites (tokens.Call name) = cond (is_built_in name) [] (name ∷ [])
-token_sites other = []
-
--- a name before others, or no name
-site_before : (built_in : Bool) (name : List ℕ) (names : List (List ℕ)) → cond built_in names (name ∷ names) ≡ cond built_in [] (name ∷ []) ++ names
-site_before true name names = refl
-site_before false name names = refl
+-- the callee of a token
+abbrev token_calls : Token → List Callee
+token_calls (tokens.Call callee) = callee ∷ []
+token_calls other = []
 
 -- the calls of a tree are collected over its parts
-sites_follow : Follows (List ℕ) token_sites sites_named
-sites_follow = record {
-  number = fold_number (List (List ℕ)) calls_step;
-  text = fold_text (List (List ℕ)) calls_step;
-  error = fold_error (List (List ℕ)) calls_step;
-  boolean = fold_boolean (List (List ℕ)) calls_step;
-  reference = fold_reference (List (List ℕ)) calls_step;
-  area = fold_area (List (List ℕ)) calls_step;
-  call = λ name arguments. fold_call (List (List ℕ)) calls_step name arguments ∙ site_before (is_built_in name) name _;
-  parentheses = fold_parentheses (List (List ℕ)) calls_step;
-  negation = fold_negation (List (List ℕ)) calls_step;
-  chain = fold_chain (List (List ℕ)) calls_step;
+calls_follow : Follows Callee token_calls calls_of
+calls_follow = record {
+  number = fold_number (List Callee) calls_step;
+  text = fold_text (List Callee) calls_step;
+  error = fold_error (List Callee) calls_step;
+  boolean = fold_boolean (List Callee) calls_step;
+  reference = fold_reference (List Callee) calls_step;
+  area = fold_area (List Callee) calls_step;
+  call = fold_call (List Callee) calls_step;
+  parentheses = fold_parentheses (List Callee) calls_step;
+  negation = fold_negation (List Callee) calls_step;
+  chain = fold_chain (List Callee) calls_step;
 }
 
 -- other tokens have no calls
-sites_of_none : GivesNothing (List ℕ) token_sites
-sites_of_none = record { opening = refl; close = refl; comma = refl; operator = λ op. refl }
-
--- a token calls once at most
-site_once : (built_in : Bool) (name : List ℕ) (names : List (List ℕ)) → length (cond built_in [] (name ∷ []) ++ names) ≤ suc (length names)
-site_once true name names = omega arith
-site_once false name names = omega arith
+calls_of_none : GivesNothing Callee token_calls
+calls_of_none = record { opening = refl; close = refl; comma = refl; operator = λ op. refl }
 
 -- there are no more calls than tokens
-sites_are_few : (written : List Token) → length (flat_map token_sites written) ≤ length written
-sites_are_few [] = omega arith
-sites_are_few (tokens.Call name ∷ written) = omega (arith, site_once (is_built_in name) name (flat_map token_sites written), sites_are_few written)
-sites_are_few (other ∷ written) = omega (arith, sites_are_few written)
+calls_are_few : (written : List Token) → length (flat_map token_calls written) ≤ length written
+calls_are_few [] = omega arith
+calls_are_few (tokens.Call callee ∷ written) = omega (arith, calls_are_few written)
+calls_are_few (other ∷ written) = omega (arith, calls_are_few written)
 
--- a formula has fewer than 65,536 calls
+-- a formula has fewer than 65,536 calls of added functions
 pub sites_fit : (tree : Node) → IsTree tree → site_count tree ≤ 65535
 sites_fit tree t =
     let f = t.1 in
-    let same = collected (List ℕ) token_sites sites_named sites_of_none sites_follow tree 0 f.written f.formula.formed in
-    omega (arith, ap length same, sites_are_few f.written, tokens_are_few f.formula.rest f.written f.formula.spelled, ap length f.formula.begins, short_text t.0 f.shallow.0)
+    let same = collected Callee token_calls calls_of calls_of_none calls_follow tree 0 f.written f.formula.formed in
+    omega (arith, sites_are_calls (calls_of tree), ap length same, calls_are_few f.written, tokens_are_few f.formula.rest f.written f.formula.spelled, ap length f.formula.begins, short_text t.0 f.shallow.0)

@@ -4,8 +4,8 @@ use Rattle.std.proofs.lemmas.List.{length-map}
 use Rattle.std.proofs.lemmas.List.Elements.{All-nil, All-cons}
 use Rattle.cell_refs.specs.declared.references.RefText.{RefText}
 use Rattle.cell_values.specs.declared.errors.ErrorKind.{ErrorKind}
-use Rattle.cell_values.specs.declared.names.Name.{Name}
 use Rattle.cell_values.specs.declared.texts.Text.{Text}
+use Rattle.formula_parse.specs.declared.callees.Callee.{Callee}
 use Rattle.formula_parse.specs.declared.nodes.Node.{Node}
 use Rattle.formula_parse.specs.declared.nodes.Node.TheFolds.{fold-Node, fold-roll-Node, rec-roll-Node, ind-Node, map-Node}
 use Rattle.formula_parse.specs.declared.nodes.Node.TheOpen.{Node-F}
@@ -43,8 +43,8 @@ module _ (A : Type 0) (step : Node-F A → A) where
   fold_area a b = ap (fold-Node A step) (sym (nodes.rolls-Area a b)) ∙ fold-roll-Node A step (layer.Area a b)
 
   -- a fold of a call
-  pub fold_call : (name : Name) (arguments : List Node) → fold-Node A step (nodes.Call name arguments) ≡ step (layer.Call name (map (fold-Node A step) arguments))
-  fold_call name arguments = ap (fold-Node A step) (sym (nodes.rolls-Call name arguments)) ∙ fold-roll-Node A step (layer.Call name arguments)
+  pub fold_call : (callee : Callee) (arguments : List Node) → fold-Node A step (nodes.Call callee arguments) ≡ step (layer.Call callee (map (fold-Node A step) arguments))
+  fold_call callee arguments = ap (fold-Node A step) (sym (nodes.rolls-Call callee arguments)) ∙ fold-roll-Node A step (layer.Call callee arguments)
 
   -- a fold of parentheses
   pub fold_parentheses : (inner : Node) → fold-Node A step (nodes.Parentheses inner) ≡ step (layer.Parentheses (fold-Node A step inner))
@@ -65,8 +65,8 @@ map_twice f g [] = refl
 map_twice f g (x ∷ xs) = ap (λ zs. g (f x) ∷ zs) (map_twice f g xs)
 
 -- what a call is written with, of so many arguments
-abbrev written_call : Name → ℕ → List Written → Written
-written_call name few parts place written = (few ≤ 255) × IsSigned place 0 (IsEnclosed (tokens.Call name) (AreArguments parts)) written
+abbrev written_call : Callee → ℕ → List Written → Written
+written_call callee few parts place written = (few ≤ 255) × IsSigned place 0 (IsEnclosed (tokens.Call callee) (AreArguments parts)) written
 
 -- one step reads the parts of a tree through its two functions alone
 written_natural : (X : Type 0) (v : X → Node) (k : Node → Written) (x : Node-F X) → written_step X v (λ p. k (v p)) x ≡ written_step Node (λ y. y) k (map-Node X Node v x)
@@ -76,7 +76,7 @@ written_natural X v k (layer.Error e) = refl
 written_natural X v k (layer.Boolean b) = refl
 written_natural X v k (layer.Reference r) = refl
 written_natural X v k (layer.Area a b) = refl
-written_natural X v k (layer.Call name arguments) = ap (λ few. written_call name few (map (λ p. k (v p)) arguments)) (sym (length-map arguments v)) ∙ ap (written_call name (length (map v arguments))) (map_twice v k arguments)
+written_natural X v k (layer.Call callee arguments) = ap (λ few. written_call callee few (map (λ p. k (v p)) arguments)) (sym (length-map arguments v)) ∙ ap (written_call callee (length (map v arguments))) (map_twice v k arguments)
 written_natural X v k (layer.Parentheses inner) = refl
 written_natural X v k (layer.Negation count operand) = refl
 written_natural X v k (layer.Chain operands ops) = ap (λ parts. λ place written. IsChainAt place parts ops written) (map_twice v k operands)
@@ -110,8 +110,8 @@ pub area_is_written : (a : RefText) (b : RefText) → IsWritten (nodes.Area a b)
 area_is_written a b = ap IsWritten (sym (nodes.rolls-Area a b)) ∙ written_roll (layer.Area a b)
 
 -- what a call is written with
-pub call_is_written : (name : Name) (arguments : List Node) → IsWritten (nodes.Call name arguments) ≡ written_step Node (λ y. y) IsWritten (layer.Call name arguments)
-call_is_written name arguments = ap IsWritten (sym (nodes.rolls-Call name arguments)) ∙ written_roll (layer.Call name arguments)
+pub call_is_written : (callee : Callee) (arguments : List Node) → IsWritten (nodes.Call callee arguments) ≡ written_step Node (λ y. y) IsWritten (layer.Call callee arguments)
+call_is_written callee arguments = ap IsWritten (sym (nodes.rolls-Call callee arguments)) ∙ written_roll (layer.Call callee arguments)
 
 -- what parentheses are written with
 pub parentheses_is_written : (inner : Node) → IsWritten (nodes.Parentheses inner) ≡ written_step Node (λ y. y) IsWritten (layer.Parentheses inner)
@@ -139,7 +139,7 @@ module _
     (boolean : (b : Bool) → P (nodes.Boolean b))
     (reference : (r : RefText) → P (nodes.Reference r))
     (area : (a b : RefText) → P (nodes.Area a b))
-    (call : (name : Name) (arguments : List Node) → All P arguments → P (nodes.Call name arguments))
+    (call : (callee : Callee) (arguments : List Node) → All P arguments → P (nodes.Call callee arguments))
     (parentheses : (inner : Node) → P inner → P (nodes.Parentheses inner))
     (negation : (count : ℕ) (operand : Node) → P operand → P (nodes.Negation count operand))
     (chain : (operands : List Node) (ops : List Operator) → All P operands → P (nodes.Chain operands ops))
@@ -152,7 +152,7 @@ module _
     layer_holds (layer.Boolean b) = subst P (sym (nodes.rolls-Boolean b)) (boolean b)
     layer_holds (layer.Reference r) = subst P (sym (nodes.rolls-Reference r)) (reference r)
     layer_holds (layer.Area a b) = subst P (sym (nodes.rolls-Area a b)) (area a b)
-    layer_holds (layer.Call name arguments) = subst P (sym (nodes.rolls-Call name (map (λ e. e.0) arguments))) (call name (map (λ e. e.0) arguments) (all_of P arguments))
+    layer_holds (layer.Call callee arguments) = subst P (sym (nodes.rolls-Call callee (map (λ e. e.0) arguments))) (call callee (map (λ e. e.0) arguments) (all_of P arguments))
     layer_holds (layer.Parentheses inner) = subst P (sym (nodes.rolls-Parentheses inner.0)) (parentheses inner.0 inner.1)
     layer_holds (layer.Negation count operand) = subst P (sym (nodes.rolls-Negation count operand.0)) (negation count operand.0 operand.1)
     layer_holds (layer.Chain operands ops) = subst P (sym (nodes.rolls-Chain (map (λ e. e.0) operands) ops)) (chain (map (λ e. e.0) operands) ops (all_of P operands))

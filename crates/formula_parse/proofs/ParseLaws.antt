@@ -5,7 +5,8 @@ use Rattle.formula_parse.specs.declared.faults.ParseFault.{ParseFault}
 use Rattle.formula_parse.specs.declared.faults.ParseFault.TheVariants as faults
 use Rattle.formula_parse.specs.declared.nodes.Node.{Node}
 use Rattle.formula_parse.specs.Faults.{IsTooDeep, IsShort, IsFormula, IsSyntaxFault, IsRangeFault, IsNumberFault}
-use Rattle.formula_parse.specs.Reading.{read_text, is_too_long, parse_result, formula_of}
+use Rattle.formula_parse.specs.ReaderMachine.{read_text}
+use Rattle.formula_parse.specs.Parsing.{is_too_long, parse_result, formula_of}
 use Rattle.formula_parse.proofs.Causes.{Cause, cause_of, fault_cause, parsed_short, formed_is_formula, formula_back, syntax_cause, range_cause, number_cause}
 
 -- whether a fault is that of the length

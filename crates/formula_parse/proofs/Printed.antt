@@ -5,7 +5,7 @@ use Rattle.formula_parse.specs.declared.nodes.Node.{Node}
 use Rattle.formula_parse.specs.declared.tokens.Token.{Token}
 use Rattle.formula_parse.specs.Faults.{IsFormula, IsTooDeep}
 use Rattle.formula_parse.specs.Printing.{canonical_text, token_text, tokens_of}
-use Rattle.formula_parse.specs.Reading.{is_wide_area, is_large_number}
+use Rattle.formula_parse.specs.Tokens.{is_wide_area, is_large_number}
 use Rattle.formula_parse.proofs.NamingTokens.{Each, each_fails, each_spelled}
 use Rattle.formula_parse.proofs.PrintedDepth.{printed_shallow}
 use Rattle.formula_parse.proofs.PrintedFlow.{flows, tree_flows}

@@ -21,21 +21,21 @@ use Rattle.formula_parse.proofs.PrintedThinned.{IsThinned, thinned_front, thinne
 -- ---- what a token opens and closes
 -- a token, and then others
 open_behind_cons : (outer : List Bool) (t : Token) (ts : List Token) → open_behind outer (t ∷ ts) ≡ open_behind (open_behind outer (t ∷ [])) ts
-open_behind_cons outer (tokens.Call name) ts = refl
+open_behind_cons outer (tokens.Call callee) ts = refl
 open_behind_cons outer tokens.Open ts = refl
 open_behind_cons outer tokens.Close ts = refl
 open_behind_cons outer other ts = refl
 
 -- whether a token neither opens nor closes
 abbrev opens_nothing : Token → Bool
-opens_nothing (tokens.Call name) = false
+opens_nothing (tokens.Call callee) = false
 opens_nothing tokens.Open = false
 opens_nothing tokens.Close = false
 opens_nothing other = true
 
 -- such a token leaves open what was open
 nothing_opened : (t : Token) (outer : List Bool) → opens_nothing t ≡ true → open_behind outer (t ∷ []) ≡ outer
-nothing_opened (tokens.Call name) outer h = cc
+nothing_opened (tokens.Call callee) outer h = cc
 nothing_opened tokens.Open outer h = cc
 nothing_opened tokens.Close outer h = cc
 nothing_opened other outer h = refl
@@ -43,7 +43,7 @@ nothing_opened other outer h = refl
 -- another token never goes on
 opener_ends : (t : Token) (rest : List ℕ) → opens_nothing t ≡ false → goes_on_with t rest ≡ false
 opener_ends t [] h = refl
-opener_ends (tokens.Call name) (b ∷ bs) h = refl
+opener_ends (tokens.Call callee) (b ∷ bs) h = refl
 opener_ends tokens.Open (b ∷ bs) h = refl
 opener_ends tokens.Close (b ∷ bs) h = refl
 opener_ends other (b ∷ bs) h = cc

@@ -11,7 +11,7 @@ use Rattle.formula_parse.proofs.NodeLaws.{node_induction, number_is_written, tex
 
 -- whether an operand ends with a token
 abbrev pub ends_operand : Token → Bool
-ends_operand (tokens.Call name) = false
+ends_operand (tokens.Call callee) = false
 ends_operand tokens.Open = false
 ends_operand tokens.Comma = false
 ends_operand (tokens.Operator op) = false
@@ -118,7 +118,7 @@ tree_flows = node_induction Flows
     (λ b place written w. signed_flows place 0 _ written (λ operand. one_flows (tokens.Boolean b) operand refl refl) (subst (λ (W : Written). W place written) (boolean_is_written b) w))
     (λ r place written w. signed_flows place 0 _ written (λ operand. one_flows (tokens.Reference r) operand refl refl) (subst (λ (W : Written). W place written) (reference_is_written r) w))
     (λ a b place written w. signed_flows place 0 _ written (λ operand. one_flows (tokens.Area a b) operand refl refl) (subst (λ (W : Written). W place written) (area_is_written a b) w))
-    (λ name arguments all place written w. signed_flows place 0 _ written (λ operand. enclosed_flows (tokens.Call name) _ operand refl refl (λ inner. arguments_flow arguments inner all)) (subst (λ (W : Written). W place written) (call_is_written name arguments) w).1)
+    (λ callee arguments all place written w. signed_flows place 0 _ written (λ operand. enclosed_flows (tokens.Call callee) _ operand refl refl (λ inner. arguments_flow arguments inner all)) (subst (λ (W : Written). W place written) (call_is_written callee arguments) w).1)
     (λ inner own place written w. signed_flows place 0 _ written (λ operand. enclosed_flows tokens.Open _ operand refl refl (λ part h. operand_inner part (own 0 part h))) (subst (λ (W : Written). W place written) (parentheses_is_written inner) w))
     (λ count operand own place written w. signed_flows place count _ written (own 5) (subst (λ (W : Written). W place written) (negation_is_written count operand) w).2)
     (λ operands ops all place written w. chain_at_flows place operands ops written all (subst (λ (W : Written). W place written) (chain_is_written operands ops) w))

@@ -21,6 +21,7 @@ use Rattle.cell_values.specs.Word.{with_doubled_quotes}
 use Rattle.cell_values.specs.declared.comparison.CompareOp.TheVariants as compare
 use Rattle.cell_values.specs.declared.errors.ErrorKind.{ErrorKind}
 use Rattle.cell_values.specs.declared.errors.ErrorKind.TheVariants as errors
+use Rattle.formula_parse.specs.Callees.{callee_named, callee_text}
 use Rattle.formula_parse.specs.declared.operators.Operator.{Operator}
 use Rattle.formula_parse.specs.declared.operators.Operator.TheVariants as operators
 use Rattle.formula_parse.specs.declared.tokens.Token.{Token}
@@ -28,6 +29,7 @@ use Rattle.formula_parse.specs.declared.tokens.Token.TheVariants as tokens
 use Rattle.formula_parse.specs.Printing.{token_text}
 use Rattle.formula_parse.specs.Tokens.{Writes, boolean_word, number_value, operator_text}
 use Rattle.formula_parse.proofs.NamingTokens.{whole_reference}
+use Rattle.formula_parse.proofs.CalleeLaws.{text_of_callee}
 
 -- ---- ASCII
 -- each byte passes the test
@@ -185,8 +187,9 @@ canonical piece (tokens.Error e) w = error_capitals e
 canonical piece (tokens.Boolean b) w = boolean_capitals b
 canonical piece (tokens.Reference r) w = reference_whole r (whole_reference piece r w)
 canonical piece (tokens.Area a b) w = (reference_text a, reference_text b, refl, reference_whole a (whole_reference w.0 a w.3), reference_whole b (whole_reference w.1 b w.4), w.5)
-canonical piece (tokens.Call name) w =
-    (name, refl, ap is_name w.3 ∙ name_upper w.0 w.2, w.3 ∙ sym (capitals_twice w.0) ∙ ap capitals (sym w.3))
+canonical piece (tokens.Call callee) w =
+    let text = text_of_callee callee (capitals w.0) w.3 in
+    (callee_text callee, refl, ap is_name text ∙ name_upper w.0 w.2, w.3 ∙ ap callee_named (sym (ap capitals text ∙ capitals_twice w.0)))
 canonical piece tokens.Open w = refl
 canonical piece tokens.Close w = refl
 canonical piece tokens.Comma w = refl
@@ -258,7 +261,8 @@ no_longer piece (tokens.Error e) w = inl (word_text piece (error_word e) w (erro
 no_longer piece (tokens.Boolean b) w = inl (word_text piece (boolean_word b) w (boolean_ascii b))
 no_longer piece (tokens.Reference r) w = inl (reference_shorter piece r w)
 no_longer piece (tokens.Area a b) w = inl (joined_shorter w.0 w.1 (reference_text a) (reference_text b) piece 58 (omega arith) w.2 (reference_shorter w.0 a w.3) (reference_shorter w.1 b w.4))
-no_longer piece (tokens.Call name) w = inl (joined_shorter w.0 [] name [] piece 40 (omega arith) w.1 (name_shorter w.0 name w.2 w.3) nothing_shorter)
+no_longer piece (tokens.Call callee) w =
+    inl (joined_shorter w.0 [] (callee_text callee) [] piece 40 (omega arith) w.1 (name_shorter w.0 (callee_text callee) w.2 (text_of_callee callee (capitals w.0) w.3)) nothing_shorter)
 no_longer piece tokens.Open w = inl (same_text piece (codes "(") w (ascii_tested (codes "(") refl))
 no_longer piece tokens.Close w = inl (same_text piece (codes ")") w (ascii_tested (codes ")") refl))
 no_longer piece tokens.Comma w = inl (same_text piece (codes ",") w (ascii_tested (codes ",") refl))

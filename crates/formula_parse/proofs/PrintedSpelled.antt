@@ -133,7 +133,7 @@ awaited_begins token b bs a w e =
 
 -- a token behind which an operand is awaited goes on with `=` or `>` alone
 opener_stops : (token : Token) (b : ℕ) → ends_operand token ≡ false → is_comparing b ≡ false → goes_on token b ≡ false
-opener_stops (tokens.Call name) b e h = refl
+opener_stops (tokens.Call callee) b e h = refl
 opener_stops tokens.Open b e h = refl
 opener_stops tokens.Comma b e h = refl
 opener_stops (tokens.Operator (operators.Compare compare.Eq)) b e h = refl

@@ -35,7 +35,7 @@ thinned_each P us (t ∷ ts) (inr h) e = thinned_each P us ts h.1 e.1
 
 -- a token before others opens and closes the same before fewer
 opens_step : (t : Token) (us ts : List Token) → ((outer : List Bool) → open_behind outer us ≡ open_behind outer ts) → (outer : List Bool) → open_behind outer (t ∷ us) ≡ open_behind outer (t ∷ ts)
-opens_step (tokens.Call name) us ts h outer = h _
+opens_step (tokens.Call callee) us ts h outer = h _
 opens_step tokens.Open us ts h outer = h _
 opens_step tokens.Close us ts h outer = h _
 opens_step other us ts h outer = h outer
@@ -125,7 +125,7 @@ tree_thins = node_induction Thins
     (λ b place written w. from_step written _ _ (fold_boolean (List Token) tokens_step b) (signed_thins place 0 _ written _ (one_thins (tokens.Boolean b)) (subst (λ (W : Written). W place written) (boolean_is_written b) w)))
     (λ r place written w. from_step written _ _ (fold_reference (List Token) tokens_step r) (signed_thins place 0 _ written _ (one_thins (tokens.Reference r)) (subst (λ (W : Written). W place written) (reference_is_written r) w)))
     (λ a b place written w. from_step written _ _ (fold_area (List Token) tokens_step a b) (signed_thins place 0 _ written _ (one_thins (tokens.Area a b)) (subst (λ (W : Written). W place written) (area_is_written a b) w)))
-    (λ name arguments all place written w. from_step written _ _ (fold_call (List Token) tokens_step name arguments) (signed_thins place 0 _ written _ (λ operand. enclosed_thins (tokens.Call name) _ operand _ (λ inner. arguments_thin arguments inner all)) (subst (λ (W : Written). W place written) (call_is_written name arguments) w).1))
+    (λ callee arguments all place written w. from_step written _ _ (fold_call (List Token) tokens_step callee arguments) (signed_thins place 0 _ written _ (λ operand. enclosed_thins (tokens.Call callee) _ operand _ (λ inner. arguments_thin arguments inner all)) (subst (λ (W : Written). W place written) (call_is_written callee arguments) w).1))
     (λ inner own place written w. from_step written _ _ (fold_parentheses (List Token) tokens_step inner) (signed_thins place 0 _ written _ (λ operand. enclosed_thins tokens.Open _ operand _ (own 0)) (subst (λ (W : Written). W place written) (parentheses_is_written inner) w)))
     (λ count operand own place written w. from_step written _ _ (fold_negation (List Token) tokens_step count operand) (signed_thins place count _ written _ (own 5) (subst (λ (W : Written). W place written) (negation_is_written count operand) w).2))
     (λ operands ops all place written w. from_step written _ _ (fold_chain (List Token) tokens_step operands ops) (chain_at_thins place operands ops written all (subst (λ (W : Written). W place written) (chain_is_written operands ops) w)))

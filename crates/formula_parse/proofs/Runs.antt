@@ -8,8 +8,8 @@ use Rattle.formula_parse.specs.declared.reader.Reader.{Reader}
 use Rattle.formula_parse.specs.declared.tokens.Token.{Token}
 use Rattle.formula_parse.specs.Faults.{IsUnlimitedFormula}
 use Rattle.formula_parse.specs.Lexing.{token_at}
-use Rattle.formula_parse.specs.Reading.{Turn, turn_at, reader_behind, tree_at_end, first_reader, is_wide_area, is_large_number}
-use Rattle.formula_parse.specs.Tokens.{IsSpelled, are_spaces}
+use Rattle.formula_parse.specs.ReaderMachine.{Turn, turn_at, reader_behind, tree_at_end, first_reader}
+use Rattle.formula_parse.specs.Tokens.{is_wide_area, is_large_number, IsSpelled, are_spaces}
 use Rattle.formula_parse.proofs.LexingLaws.{written_is_found}
 use Rattle.formula_parse.proofs.Machine.{ran}
 use Rattle.formula_parse.proofs.MachineLaws.{what_is_read_is_written}

@@ -10,7 +10,7 @@ use Rattle.formula_parse.specs.declared.tokens.Token.TheVariants as tokens
 use Rattle.formula_parse.specs.declared.operators.Operator.TheVariants as operators
 use Rattle.cell_values.specs.declared.comparison.CompareOp.TheVariants as compare
 use Rattle.formula_parse.specs.Lexing.{token_at}
-use Rattle.formula_parse.specs.Reading.{reader_behind, is_too_deep}
+use Rattle.formula_parse.specs.ReaderMachine.{reader_behind, is_too_deep}
 use Rattle.formula_parse.specs.Tokens.{Writes, IsSpelled, are_spaces, goes_on, goes_on_with}
 use Rattle.formula_parse.proofs.LexingLaws.{written_is_found}
 
@@ -31,7 +31,7 @@ space_ends (tokens.Error e) = refl
 space_ends (tokens.Boolean b) = refl
 space_ends (tokens.Reference r) = refl
 space_ends (tokens.Area a b) = refl
-space_ends (tokens.Call name) = refl
+space_ends (tokens.Call callee) = refl
 space_ends tokens.Open = refl
 space_ends tokens.Close = refl
 space_ends tokens.Comma = refl
@@ -55,7 +55,7 @@ close_ends (tokens.Error e) = refl
 close_ends (tokens.Boolean b) = refl
 close_ends (tokens.Reference r) = refl
 close_ends (tokens.Area a b) = refl
-close_ends (tokens.Call name) = refl
+close_ends (tokens.Call callee) = refl
 close_ends tokens.Open = refl
 close_ends tokens.Close = refl
 close_ends tokens.Comma = refl

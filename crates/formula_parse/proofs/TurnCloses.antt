@@ -10,7 +10,7 @@ use Rattle.formula_parse.specs.declared.reader.Phase.{Phase}
 use Rattle.formula_parse.specs.declared.reader.Phase.TheVariants as phases
 use Rattle.formula_parse.specs.declared.tokens.Token.{Token}
 use Rattle.formula_parse.specs.declared.tokens.Token.TheVariants as tokens
-use Rattle.formula_parse.specs.Reading.{Turn, signed_node, tree_of_chains, awaits_operand}
+use Rattle.formula_parse.specs.ReaderMachine.{Turn, signed_node, tree_of_chains, awaits_operand}
 use Rattle.formula_parse.proofs.Machine.{ran, ended_behind}
 use Rattle.formula_parse.proofs.TurnStands.{Stands, IsOpened, IsBegun}
 
@@ -18,7 +18,7 @@ use Rattle.formula_parse.proofs.TurnStands.{Stands, IsOpened, IsBegun}
 abbrev IsClosable : Opened → List Frame → Type 0 → Type 0
 IsClosable opened.Formula frames Outer = frames ≡ []
 IsClosable opened.Parentheses frames Outer = Outer
-IsClosable (opened.Call name arguments) frames Outer = Outer
+IsClosable (opened.Call callee arguments) frames Outer = Outer
 
 -- the same of each frame
 abbrev pub AreClosable : List Frame → Type 0
@@ -29,7 +29,7 @@ AreClosable (frame ∷ frames) = IsClosable frame.opened frames (AreClosable fra
 opened_closable : (what : Opened) (frames : List Frame) (Outer : List Token → Type 0) (front : List Token) → ((before : List Token) → Outer before → AreClosable frames) → IsOpened what frames Outer front → IsClosable what frames (AreClosable frames)
 opened_closable opened.Formula frames Outer front onward h = h.0
 opened_closable opened.Parentheses frames Outer front onward h = onward h.0 h.2
-opened_closable (opened.Call name arguments) frames Outer front onward h = onward h.0 h.5
+opened_closable (opened.Call callee arguments) frames Outer front onward h = onward h.0 h.5
 
 -- frames that stand for tokens are closable
 stands_closable : (frames : List Frame) (phase : Phase) (written : List Token) → Stands phase frames written → AreClosable frames
@@ -50,8 +50,8 @@ frame_ends opened.Formula minuses calls chains frames operand c onward = formula
 frame_ends opened.Parentheses minuses calls chains frames operand c onward =
     let e = onward (signed_node minuses (nodes.Parentheses (tree_of_chains operand chains))) c in
     (suc e.0, e.1, e.2, e.3)
-frame_ends (opened.Call name arguments) minuses calls chains frames operand c onward =
-    let e = onward (signed_node minuses (nodes.Call name (arguments ++ tree_of_chains operand chains ∷ []))) c in
+frame_ends (opened.Call callee arguments) minuses calls chains frames operand c onward =
+    let e = onward (signed_node minuses (nodes.Call callee (arguments ++ tree_of_chains operand chains ∷ []))) c in
     (suc e.0, e.1, e.2, e.3)
 
 -- behind an operand, closing all that is open ends a formula
@@ -63,8 +63,8 @@ operand_ends (frame ∷ frames) operand c = frame_ends frame.opened frame.minuse
 begun_ends : (what : Opened) (minuses calls : ℕ) (chains : List OpenChain) (frames : List Frame) → IsBegun what → IsClosable what frames (AreClosable frames) → IsEnded (phases.Start, record { opened = what; minuses = minuses; calls = calls; chains = chains } ∷ frames)
 begun_ends opened.Formula minuses calls chains frames b c = absurd b
 begun_ends opened.Parentheses minuses calls chains frames b c = absurd b
-begun_ends (opened.Call name arguments) minuses calls chains frames b c =
-    let e = operand_ends frames (signed_node minuses (nodes.Call name arguments)) c in
+begun_ends (opened.Call callee arguments) minuses calls chains frames b c =
+    let e = operand_ends frames (signed_node minuses (nodes.Call callee arguments)) c in
     (suc e.0, e.1, e.2, e.3)
 
 -- directly behind a name and `(`, closing all that is open ends a formula

@@ -10,7 +10,7 @@ use Rattle.formula_parse.specs.declared.operators.Operator.TheVariants as operat
 use Rattle.formula_parse.specs.declared.tokens.Token.{Token}
 use Rattle.formula_parse.specs.declared.tokens.Token.TheVariants as tokens
 use Rattle.formula_parse.specs.Grammar.{place_of, Written, AreSigns, IsSigned, IsChainAt, IsWritten}
-use Rattle.formula_parse.specs.Reading.{signed_node}
+use Rattle.formula_parse.specs.ReaderMachine.{signed_node}
 use Rattle.formula_parse.proofs.NodeLaws.{node_induction, number_is_written, text_is_written, error_is_written, boolean_is_written, reference_is_written, area_is_written, call_is_written, parentheses_is_written, negation_is_written, chain_is_written}
 
 -- from what a tree is written with to the grammar's words for it

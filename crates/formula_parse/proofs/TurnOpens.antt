@@ -2,7 +2,7 @@
 use Rattle.std.proofs.Common.{◌≡◌, ℕ, suc, ◌+◌, Bool, true, false, cond, List, [], ◌∷◌, ◌++◌, length, drop, Some, None, IsSome, option_map, if◌then◌else◌, refl, sym, ap, subst, arith, nat_lt}
 use Rattle.std.specs.List.{count_by}
 use Rattle.std.proofs.lemmas.List.Sums.{sum_by-cons}
-use Rattle.cell_values.specs.declared.names.Name.{Name}
+use Rattle.formula_parse.specs.declared.callees.Callee.{Callee}
 use Rattle.formula_parse.specs.declared.nodes.Node.{Node}
 use Rattle.formula_parse.specs.declared.operators.Operator.TheVariants as operators
 use Rattle.formula_parse.specs.declared.reader.Frame.{Frame}
@@ -14,7 +14,7 @@ use Rattle.formula_parse.specs.declared.reader.Phase.TheVariants as phases
 use Rattle.formula_parse.specs.declared.tokens.Token.{Token}
 use Rattle.formula_parse.specs.declared.tokens.Token.TheVariants as tokens
 use Rattle.formula_parse.specs.Faults.{open_behind}
-use Rattle.formula_parse.specs.Reading.{Turn, turn_at, operand_turn, start_turn, after_turn, empty_call, after_operand, closing, with_argument, tree_of_chains, calls_open, awaits_operand, with_frame}
+use Rattle.formula_parse.specs.ReaderMachine.{Turn, turn_at, operand_turn, start_turn, after_turn, empty_call, after_operand, closing, with_argument, tree_of_chains, calls_open, awaits_operand, with_frame}
 use Rattle.formula_parse.proofs.Machine.{first_turn, ran, is_operand}
 use Rattle.formula_parse.proofs.TurnRuns.{Of, kept_by_run}
 
@@ -27,7 +27,7 @@ operand_is_taken minuses frames (tokens.Error e) o = refl
 operand_is_taken minuses frames (tokens.Boolean b) o = refl
 operand_is_taken minuses frames (tokens.Reference r) o = refl
 operand_is_taken minuses frames (tokens.Area a b) o = refl
-operand_is_taken minuses frames (tokens.Call name) o = refl
+operand_is_taken minuses frames (tokens.Call callee) o = refl
 operand_is_taken minuses frames tokens.Open o = cc
 operand_is_taken minuses frames tokens.Close o = cc
 operand_is_taken minuses frames tokens.Comma o = cc
@@ -49,7 +49,7 @@ operand_is_awaited (phases.After operand) frames token a o = cc
 abbrev OpensFrame : Opened → ℕ → List Frame → (List Bool → Type 0) → List Bool → Type 0
 OpensFrame opened.Formula calls frames Outer left = (frames ≡ []) × (left ≡ []) × (calls ≡ 0)
 OpensFrame opened.Parentheses calls frames Outer left = (rest : List Bool) × (left ≡ false ∷ rest) × (calls ≡ calls_open frames) × Outer rest
-OpensFrame (opened.Call name arguments) calls frames Outer left = (rest : List Bool) × (left ≡ true ∷ rest) × (calls ≡ suc (calls_open frames)) × Outer rest
+OpensFrame (opened.Call callee arguments) calls frames Outer left = (rest : List Bool) × (left ≡ true ∷ rest) × (calls ≡ suc (calls_open frames)) × Outer rest
 
 -- the frames are what is open
 abbrev Opens : List Frame → List Bool → Type 0
@@ -63,7 +63,7 @@ OpensBehind turn written = Opens turn.1 (open_behind [] written)
 -- what a list of tokens leaves open, and then one token more
 open_behind_one : (outer : List Bool) (front : List Token) (token : Token) → open_behind outer (front ++ token ∷ []) ≡ open_behind (open_behind outer front) (token ∷ [])
 open_behind_one outer [] token = refl
-open_behind_one outer (tokens.Call name ∷ front) token = open_behind_one (true ∷ outer) front token
+open_behind_one outer (tokens.Call callee ∷ front) token = open_behind_one (true ∷ outer) front token
 open_behind_one outer (tokens.Open ∷ front) token = open_behind_one (false ∷ outer) front token
 open_behind_one outer (tokens.Close ∷ front) token = open_behind_one (drop 1 outer) front token
 open_behind_one outer (other ∷ front) token = open_behind_one outer front token
@@ -76,7 +76,7 @@ operand_opens minuses frames left (tokens.Error e) h = h
 operand_opens minuses frames left (tokens.Boolean b) h = h
 operand_opens minuses frames left (tokens.Reference r) h = h
 operand_opens minuses frames left (tokens.Area a b) h = h
-operand_opens minuses frames left (tokens.Call name) h = (left, refl, refl, h)
+operand_opens minuses frames left (tokens.Call callee) h = (left, refl, refl, h)
 operand_opens minuses frames left tokens.Open h = (left, refl, refl, h)
 operand_opens minuses frames left tokens.Close h = tt
 operand_opens minuses frames left tokens.Comma h = tt
@@ -88,7 +88,7 @@ operand_opens minuses frames left (tokens.Operator op) h = tt
 close_opens : (what : Opened) (minuses calls : ℕ) (frames : List Frame) (last : Node) (left : List Bool) → OpensFrame what calls frames (Opens frames) left → Of (λ (next : Turn). Opens next.1 (drop 1 left)) (after_operand minuses frames (closing what last))
 close_opens opened.Formula minuses calls frames last left h = tt
 close_opens opened.Parentheses minuses calls frames last left h = subst (Opens frames) (sym (ap (drop 1) h.1)) h.3
-close_opens (opened.Call name arguments) minuses calls frames last left h = subst (Opens frames) (sym (ap (drop 1) h.1)) h.3
+close_opens (opened.Call callee arguments) minuses calls frames last left h = subst (Opens frames) (sym (ap (drop 1) h.1)) h.3
 
 -- a `)` directly behind a name and `(` closes one frame
 empty_opens : (frames : List Frame) (left : List Bool) → Opens frames left → Of (λ (next : Turn). Opens next.1 (drop 1 left)) (empty_call frames)
@@ -98,17 +98,17 @@ empty_opens (frame ∷ frames) left h = empty_frame_opens frame.opened frame.min
     empty_frame_opens : (what : Opened) (minuses calls : ℕ) (chains : List OpenChain) (frames : List Frame) (left : List Bool) → OpensFrame what calls frames (Opens frames) left → Of (λ (next : Turn). Opens next.1 (drop 1 left)) (empty_call (record { opened = what; minuses = minuses; calls = calls; chains = chains } ∷ frames))
     empty_frame_opens opened.Formula minuses calls chains frames left h = tt
     empty_frame_opens opened.Parentheses minuses calls chains frames left h = tt
-    empty_frame_opens (opened.Call name arguments) minuses calls chains frames left h = subst (Opens frames) (sym (ap (drop 1) h.1)) h.3
+    empty_frame_opens (opened.Call callee arguments) minuses calls chains frames left h = subst (Opens frames) (sym (ap (drop 1) h.1)) h.3
 
 -- a `,` leaves open what was open
 comma_opens : (what : Opened) (minuses calls : ℕ) (frames : List Frame) (last : Node) (left : List Bool) → OpensFrame what calls frames (Opens frames) left → Of (λ (next : Turn). Opens next.1 left) (option_map (λ more. (phases.Signs 0, with_frame more minuses calls frames)) (with_argument what last))
 comma_opens opened.Formula minuses calls frames last left h = tt
 comma_opens opened.Parentheses minuses calls frames last left h = tt
-comma_opens (opened.Call name arguments) minuses calls frames last left h = comma_opens_where (nat_lt (length arguments) 254) name (arguments ++ last ∷ []) minuses calls frames left h
+comma_opens (opened.Call callee arguments) minuses calls frames last left h = comma_opens_where (nat_lt (length arguments) 254) callee (arguments ++ last ∷ []) minuses calls frames left h
   where
-    comma_opens_where : (has_room : Bool) (name : Name) (arguments : List Node) (minuses calls : ℕ) (frames : List Frame) (left : List Bool) → OpensFrame (opened.Call name []) calls frames (Opens frames) left → Of (λ (next : Turn). Opens next.1 left) (option_map (λ more. (phases.Signs 0, with_frame more minuses calls frames)) (if has_room then Some (opened.Call name arguments) else None))
-    comma_opens_where false name arguments minuses calls frames left h = tt
-    comma_opens_where true name arguments minuses calls frames left h = h
+    comma_opens_where : (has_room : Bool) (callee : Callee) (arguments : List Node) (minuses calls : ℕ) (frames : List Frame) (left : List Bool) → OpensFrame (opened.Call callee []) calls frames (Opens frames) left → Of (λ (next : Turn). Opens next.1 left) (option_map (λ more. (phases.Signs 0, with_frame more minuses calls frames)) (if has_room then Some (opened.Call callee arguments) else None))
+    comma_opens_where false callee arguments minuses calls frames left h = tt
+    comma_opens_where true callee arguments minuses calls frames left h = h
 
 -- what a token behind an operand leaves open
 after_opens : (operand : Node) (frames : List Frame) (left : List Bool) (token : Token) → Opens frames left → Of (λ (next : Turn). Opens next.1 (open_behind left (token ∷ []))) (after_turn operand frames token)
@@ -151,7 +151,7 @@ frame_counted opened.Formula minuses calls chains frames left h = subst (λ left
 frame_counted opened.Parentheses minuses calls chains frames left h =
     let c : calls ≡ count_by (λ is_call. is_call) (false ∷ h.0) = omega (arith, h.2, h.3.0, count_more false h.0) in
     subst (λ left. (calls ≡ count_by (λ is_call. is_call) left) × (suc (length frames) ≡ suc (length left))) (sym h.1) (c, ap suc h.3.1)
-frame_counted (opened.Call name arguments) minuses calls chains frames left h =
+frame_counted (opened.Call callee arguments) minuses calls chains frames left h =
     let c : calls ≡ count_by (λ is_call. is_call) (true ∷ h.0) = omega (arith, h.2, h.3.0, count_more true h.0) in
     subst (λ left. (calls ≡ count_by (λ is_call. is_call) left) × (suc (length frames) ≡ suc (length left))) (sym h.1) (c, ap suc h.3.1)
 
@@ -159,7 +159,7 @@ frame_counted (opened.Call name arguments) minuses calls chains frames left h =
 outer_counted : (what : Opened) (calls : ℕ) (frames : List Frame) (Outer Inner : List Bool → Type 0) → ((left : List Bool) → Outer left → Inner left) → (left : List Bool) → OpensFrame what calls frames Outer left → OpensFrame what calls frames Inner left
 outer_counted opened.Formula calls frames Outer Inner onward left h = h
 outer_counted opened.Parentheses calls frames Outer Inner onward left h = (h.0, h.1, h.2, onward h.0 h.3)
-outer_counted (opened.Call name arguments) calls frames Outer Inner onward left h = (h.0, h.1, h.2, onward h.0 h.3)
+outer_counted (opened.Call callee arguments) calls frames Outer Inner onward left h = (h.0, h.1, h.2, onward h.0 h.3)
 
 -- where the frames are what is open they are counted
 pub opens_counted : (frames : List Frame) (left : List Bool) → Opens frames left → (calls_open frames ≡ count_by (λ is_call. is_call) left) × (length frames ≡ suc (length left))

@@ -2,7 +2,7 @@
 use Rattle.std.proofs.Common.{◌≡◌, List, [], ◌∷◌, ◌++◌, Option, Some, None, option_and_then, sym, ap, ◌∙◌, subst}
 use Rattle.std.proofs.lemmas.List.{append_assoc, append-nil}
 use Rattle.formula_parse.specs.declared.tokens.Token.{Token}
-use Rattle.formula_parse.specs.Reading.{Turn, turn_at}
+use Rattle.formula_parse.specs.ReaderMachine.{Turn, turn_at}
 use Rattle.formula_parse.proofs.Machine.{ran}
 
 -- what holds of a value, where there is one

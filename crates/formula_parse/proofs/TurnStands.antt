@@ -2,7 +2,7 @@
 use Rattle.std.proofs.Common.{◌≡◌, inr, ℕ, suc, ◌<◌, ◌≤◌, Bool, true, false, List, [], ◌∷◌, ◌++◌, map, length, Some, None, option_map, refl, sym, ap, ◌∙◌, subst, arith, ltb-true}
 use Rattle.std.specs.Prelude.{nat_lt, if◌then◌else◌}
 use Rattle.std.proofs.lemmas.List.{append_assoc, append-nil, length-append}
-use Rattle.cell_values.specs.declared.names.Name.{Name}
+use Rattle.formula_parse.specs.declared.callees.Callee.{Callee}
 use Rattle.formula_parse.specs.declared.nodes.Node.{Node}
 use Rattle.formula_parse.specs.declared.nodes.Node.TheVariants as nodes
 use Rattle.formula_parse.specs.declared.operators.Operator.{Operator}
@@ -16,7 +16,7 @@ use Rattle.formula_parse.specs.declared.reader.Phase.TheVariants as phases
 use Rattle.formula_parse.specs.declared.tokens.Token.{Token}
 use Rattle.formula_parse.specs.declared.tokens.Token.TheVariants as tokens
 use Rattle.formula_parse.specs.Grammar.{place_of, Written, AreSigns, IsSigned, IsOne, AreArguments, IsWritten}
-use Rattle.formula_parse.specs.Reading.{Turn, turn_at, operand_turn, start_turn, after_turn, empty_call, after_operand, closing, with_argument, with_frame, signed_node, operand_in_chains, chains_behind, tree_of_chains, tree_at_end}
+use Rattle.formula_parse.specs.ReaderMachine.{Turn, turn_at, operand_turn, start_turn, after_turn, empty_call, after_operand, closing, with_argument, with_frame, signed_node, operand_in_chains, chains_behind, tree_of_chains, tree_at_end}
 use Rattle.formula_parse.proofs.Machine.{first_turn, ran}
 use Rattle.formula_parse.proofs.NodeLaws.{number_is_written, text_is_written, error_is_written, boolean_is_written, reference_is_written, area_is_written, call_is_written, parentheses_is_written}
 use Rattle.formula_parse.proofs.ChainLinks.{AreChains, bound_written, chained_written, finished_written, chains_are_low}
@@ -28,8 +28,8 @@ use Rattle.formula_parse.proofs.TurnRuns.{Of, kept_by_run}
 abbrev pub IsBegun : Opened → Type 0
 IsBegun opened.Formula = ⊥
 IsBegun opened.Parentheses = ⊥
-IsBegun (opened.Call name []) = Unit {0}
-IsBegun (opened.Call name (argument ∷ arguments)) = ⊥
+IsBegun (opened.Call callee []) = Unit {0}
+IsBegun (opened.Call callee (argument ∷ arguments)) = ⊥
 
 -- the tokens behind what was opened last, or behind the last `,` in it
 abbrev pub IsInside : Opened → List OpenChain → Phase → List Token → Type 0
@@ -46,7 +46,7 @@ AreDone (x ∷ xs) inner = (argument rest : List Token) × (inner ≡ argument +
 abbrev pub IsOpened : Opened → List Frame → (List Token → Type 0) → List Token → Type 0
 IsOpened opened.Formula frames Outer front = (frames ≡ []) × (front ≡ [])
 IsOpened opened.Parentheses frames Outer front = (before : List Token) × (front ≡ before ++ tokens.Open ∷ []) × Outer before
-IsOpened (opened.Call name arguments) frames Outer front = (before done : List Token) × (front ≡ before ++ tokens.Call name ∷ done) × AreDone arguments done × (length arguments ≤ 254) × Outer before
+IsOpened (opened.Call callee arguments) frames Outer front = (before done : List Token) × (front ≡ before ++ tokens.Call callee ∷ done) × AreDone arguments done × (length arguments ≤ 254) × Outer before
 
 -- the tokens for which a phase and frames stand
 abbrev pub Stands : Phase → List Frame → List Token → Type 0
@@ -111,7 +111,7 @@ operand_stands minuses frames written (tokens.Error e) h = operand_behind_signs 
 operand_stands minuses frames written (tokens.Boolean b) h = operand_behind_signs minuses frames written (nodes.Boolean b) (tokens.Boolean b ∷ []) h (written_from (boolean_is_written b) 5 (tokens.Boolean b ∷ []) (one (tokens.Boolean b)))
 operand_stands minuses frames written (tokens.Reference r) h = operand_behind_signs minuses frames written (nodes.Reference r) (tokens.Reference r ∷ []) h (written_from (reference_is_written r) 5 (tokens.Reference r ∷ []) (one (tokens.Reference r)))
 operand_stands minuses frames written (tokens.Area a b) h = operand_behind_signs minuses frames written (nodes.Area a b) (tokens.Area a b ∷ []) h (written_from (area_is_written a b) 5 (tokens.Area a b ∷ []) (one (tokens.Area a b)))
-operand_stands minuses frames written (tokens.Call name) h = (written ++ tokens.Call name ∷ [], [], sym (append-nil (written ++ tokens.Call name ∷ [])), (written, [], refl, refl, omega arith, h), (tt, refl, refl))
+operand_stands minuses frames written (tokens.Call callee) h = (written ++ tokens.Call callee ∷ [], [], sym (append-nil (written ++ tokens.Call callee ∷ [])), (written, [], refl, refl, omega arith, h), (tt, refl, refl))
 operand_stands minuses frames written tokens.Open h = (written ++ tokens.Open ∷ [], [], sym (append-nil (written ++ tokens.Open ∷ [])), (written, refl, h), ([], [], refl, refl, refl))
 operand_stands minuses frames written tokens.Close h = tt
 operand_stands minuses frames written tokens.Comma h = tt
@@ -134,12 +134,12 @@ done_whole (x ∷ xs) last done own h w = argument_more (IsWritten x) (map IsWri
     argument_more X (Y ∷ Xs) argument rest inner e w some h = (argument, rest, e, w, h)
 
 -- a whole call behind signs
-call_behind_signs : (minuses : ℕ) (frames : List Frame) (name : Name) (arguments : List Node) (before inner written : List Token) → written ≡ before ++ tokens.Call name ∷ (inner ++ tokens.Close ∷ []) → length arguments ≤ 255 → AreArguments (map IsWritten arguments) inner → Stands (phases.Signs minuses) frames before → Stands (phases.After (signed_node minuses (nodes.Call name arguments))) frames written
-call_behind_signs minuses frames name arguments before inner written e few w h =
-    let own = tokens.Call name ∷ (inner ++ tokens.Close ∷ []) in
-    subst (Stands (phases.After (signed_node minuses (nodes.Call name arguments))) frames) (sym e)
-    (operand_behind_signs minuses frames before (nodes.Call name arguments) own h
-    (written_from (call_is_written name arguments) 5 own (few, alone _ own (inner, refl, w))))
+call_behind_signs : (minuses : ℕ) (frames : List Frame) (callee : Callee) (arguments : List Node) (before inner written : List Token) → written ≡ before ++ tokens.Call callee ∷ (inner ++ tokens.Close ∷ []) → length arguments ≤ 255 → AreArguments (map IsWritten arguments) inner → Stands (phases.Signs minuses) frames before → Stands (phases.After (signed_node minuses (nodes.Call callee arguments))) frames written
+call_behind_signs minuses frames callee arguments before inner written e few w h =
+    let own = tokens.Call callee ∷ (inner ++ tokens.Close ∷ []) in
+    subst (Stands (phases.After (signed_node minuses (nodes.Call callee arguments))) frames) (sym e)
+    (operand_behind_signs minuses frames before (nodes.Call callee arguments) own h
+    (written_from (call_is_written callee arguments) 5 own (few, alone _ own (inner, refl, w))))
 
 -- whole parentheses behind signs
 parentheses_behind_signs : (minuses : ℕ) (frames : List Frame) (last : Node) (before inner written : List Token) → written ≡ before ++ tokens.Open ∷ (inner ++ tokens.Close ∷ []) → IsWritten last 0 inner → Stands (phases.Signs minuses) frames before → Stands (phases.After (signed_node minuses (nodes.Parentheses last))) frames written
@@ -158,9 +158,9 @@ enclosed_tokens before done inner front written opening closing e f =
 close_stands : (what : Opened) (minuses : ℕ) (frames : List Frame) (last : Node) (front inner written : List Token) → written ≡ front ++ inner → IsOpened what frames (Stands (phases.Signs minuses) frames) front → IsWritten last 0 inner → Of (λ (next : Turn). StandsFor next (written ++ tokens.Close ∷ [])) (after_operand minuses frames (closing what last))
 close_stands opened.Formula minuses frames last front inner written e h w = tt
 close_stands opened.Parentheses minuses frames last front inner written e h w = parentheses_behind_signs minuses frames last h.0 inner (written ++ tokens.Close ∷ []) (enclosed_tokens h.0 [] inner front written tokens.Open tokens.Close e h.1) w h.2
-close_stands (opened.Call name arguments) minuses frames last front inner written e h w =
+close_stands (opened.Call callee arguments) minuses frames last front inner written e h w =
     let few = length-append arguments (last ∷ []) in
-    call_behind_signs minuses frames name (arguments ++ last ∷ []) h.0 (h.1 ++ inner) (written ++ tokens.Close ∷ []) (enclosed_tokens h.0 h.1 inner front written (tokens.Call name) tokens.Close e h.2) (omega (arith, few, h.4)) (done_whole arguments last h.1 inner h.3 w) h.5
+    call_behind_signs minuses frames callee (arguments ++ last ∷ []) h.0 (h.1 ++ inner) (written ++ tokens.Close ∷ []) (enclosed_tokens h.0 h.1 inner front written (tokens.Call callee) tokens.Close e h.2) (omega (arith, few, h.4)) (done_whole arguments last h.1 inner h.3 w) h.5
 
 -- a `)` directly behind a name and `(`
 empty_stands : (frames : List Frame) (written : List Token) → Stands phases.Start frames written → Of (λ (next : Turn). StandsFor next (written ++ tokens.Close ∷ [])) (empty_call frames)
@@ -170,9 +170,9 @@ empty_stands (frame ∷ frames) written h = empty_frame_stands frame.opened fram
     empty_frame_stands : (what : Opened) (minuses calls : ℕ) (chains : List OpenChain) (frames : List Frame) (front inner written : List Token) → written ≡ front ++ inner → IsOpened what frames (Stands (phases.Signs minuses) frames) front → IsInside what chains phases.Start inner → Of (λ (next : Turn). StandsFor next (written ++ tokens.Close ∷ [])) (empty_call (record { opened = what; minuses = minuses; calls = calls; chains = chains } ∷ frames))
     empty_frame_stands opened.Formula minuses calls chains frames front inner written e h i = tt
     empty_frame_stands opened.Parentheses minuses calls chains frames front inner written e h i = tt
-    empty_frame_stands (opened.Call name []) minuses calls chains frames front inner written e h i =
-        call_behind_signs minuses frames name [] h.0 (h.1 ++ inner) (written ++ tokens.Close ∷ []) (enclosed_tokens h.0 h.1 inner front written (tokens.Call name) tokens.Close e h.2) (omega arith) (ap (λ d. d ++ inner) h.3 ∙ i.2) h.5
-    empty_frame_stands (opened.Call name (argument ∷ arguments)) minuses calls chains frames front inner written e h i = absurd i.0
+    empty_frame_stands (opened.Call callee []) minuses calls chains frames front inner written e h i =
+        call_behind_signs minuses frames callee [] h.0 (h.1 ++ inner) (written ++ tokens.Close ∷ []) (enclosed_tokens h.0 h.1 inner front written (tokens.Call callee) tokens.Close e h.2) (omega arith) (ap (λ d. d ++ inner) h.3 ∙ i.2) h.5
+    empty_frame_stands (opened.Call callee (argument ∷ arguments)) minuses calls chains frames front inner written e h i = absurd i.0
 
 -- ---- a `,`
 -- one more argument with a `,` behind it
@@ -184,9 +184,9 @@ done_more (x ∷ xs) last done own h w = (h.0, h.1 ++ own ++ tokens.Comma ∷ []
 comma_stands : (what : Opened) (minuses calls : ℕ) (frames : List Frame) (last : Node) (front inner written : List Token) → written ≡ front ++ inner → IsOpened what frames (Stands (phases.Signs minuses) frames) front → IsWritten last 0 inner → Of (λ (next : Turn). StandsFor next (written ++ tokens.Comma ∷ [])) (option_map (λ more. (phases.Signs 0, with_frame more minuses calls frames)) (with_argument what last))
 comma_stands opened.Formula minuses calls frames last front inner written e h w = tt
 comma_stands opened.Parentheses minuses calls frames last front inner written e h w = tt
-comma_stands (opened.Call name arguments) minuses calls frames last front inner written e h w = comma_stands_where (nat_lt (length arguments) 254) refl
+comma_stands (opened.Call callee arguments) minuses calls frames last front inner written e h w = comma_stands_where (nat_lt (length arguments) 254) refl
   where
-    comma_stands_where : (has_room : Bool) → nat_lt (length arguments) 254 ≡ has_room → Of (λ (next : Turn). StandsFor next (written ++ tokens.Comma ∷ [])) (option_map (λ more. (phases.Signs 0, with_frame more minuses calls frames)) (if has_room then Some (opened.Call name (arguments ++ last ∷ [])) else None))
+    comma_stands_where : (has_room : Bool) → nat_lt (length arguments) 254 ≡ has_room → Of (λ (next : Turn). StandsFor next (written ++ tokens.Comma ∷ [])) (option_map (λ more. (phases.Signs 0, with_frame more minuses calls frames)) (if has_room then Some (opened.Call callee (arguments ++ last ∷ [])) else None))
     comma_stands_where false r = tt
     comma_stands_where true r =
         let few = ltb-true (length arguments) 254 r in
@@ -194,7 +194,7 @@ comma_stands (opened.Call name arguments) minuses calls frames last front inner 
           written ++ tokens.Comma ∷ [],
           [],
           sym (append-nil (written ++ tokens.Comma ∷ [])),
-          (h.0, h.1 ++ inner ++ tokens.Comma ∷ [], enclosed_tokens h.0 h.1 inner front written (tokens.Call name) tokens.Comma e h.2, done_more arguments last h.1 inner h.3 w, omega arith, h.5),
+          (h.0, h.1 ++ inner ++ tokens.Comma ∷ [], enclosed_tokens h.0 h.1 inner front written (tokens.Call callee) tokens.Comma e h.2, done_more arguments last h.1 inner h.3 w, omega arith, h.5),
           ([], [], refl, refl, refl),
         )
 
@@ -239,7 +239,7 @@ run_stands written turn e = kept_by_run StandsFor (λ turn front token h. turn_s
 whole_stands : (what : Opened) (minuses : ℕ) (chains : List OpenChain) (operand : Node) (front inner written : List Token) → written ≡ front ++ inner → IsOpened what [] (Stands (phases.Signs minuses) []) front → IsInside what chains (phases.After operand) inner → IsWritten (tree_of_chains operand chains) 0 written
 whole_stands opened.Formula minuses chains operand front inner written e h i = subst (IsWritten (tree_of_chains operand chains) 0) (sym (e ∙ ap (λ f. f ++ inner) h.1)) (inside_finished opened.Formula chains operand inner i)
 whole_stands opened.Parentheses minuses chains operand front inner written e h i = absurd h.2
-whole_stands (opened.Call name arguments) minuses chains operand front inner written e h i = absurd h.5
+whole_stands (opened.Call callee arguments) minuses chains operand front inner written e h i = absurd h.5
 
 -- where tokens may end, they write the tree
 pub ended_stands : (phase : Phase) (frames : List Frame) (written : List Token) → Stands phase frames written → Of (λ tree. IsWritten tree 0 written) (tree_at_end phase frames)

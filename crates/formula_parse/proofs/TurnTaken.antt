@@ -5,7 +5,7 @@ use Rattle.std.proofs.lemmas.Bool.{cond-true}
 use Rattle.std.proofs.lemmas.Option.{same_Some}
 use Rattle.std.proofs.lemmas.List.{append_assoc, length-append}
 use Rattle.std.proofs.lemmas.List.Elements.{All-head, All-tail}
-use Rattle.cell_values.specs.declared.names.Name.{Name}
+use Rattle.formula_parse.specs.declared.callees.Callee.{Callee}
 use Rattle.formula_parse.specs.declared.nodes.Node.{Node}
 use Rattle.formula_parse.specs.declared.nodes.Node.TheVariants as nodes
 use Rattle.formula_parse.specs.declared.operators.Operator.TheVariants as operators
@@ -17,7 +17,7 @@ use Rattle.formula_parse.specs.declared.reader.Phase.TheVariants as phases
 use Rattle.formula_parse.specs.declared.tokens.Token.{Token}
 use Rattle.formula_parse.specs.declared.tokens.Token.TheVariants as tokens
 use Rattle.formula_parse.specs.Grammar.{AreSigns, IsSigned, IsEnclosed, AreArguments, IsWritten}
-use Rattle.formula_parse.specs.Reading.{Turn, operand_turn, with_frame, signed_node, operand_in_chains, tree_of_chains, calls_open}
+use Rattle.formula_parse.specs.ReaderMachine.{Turn, operand_turn, with_frame, signed_node, operand_in_chains, tree_of_chains, calls_open}
 use Rattle.formula_parse.proofs.Machine.{ran}
 use Rattle.formula_parse.proofs.ChainLinks.{IsLooser}
 use Rattle.formula_parse.proofs.TurnGrammar.{no_signs}
@@ -117,32 +117,32 @@ start_run frames after (tokens.Close ∷ written) operand h = cc
 start_run frames after (token ∷ written) operand h = h
 
 -- there is room for one argument more
-room_is_left : (arguments : List Node) (last : Node) (more : ℕ) (name : Name) → length arguments + (2 + more) ≤ 255 → (if nat_lt (length arguments) 254 then Some (opened.Call name (arguments ++ last ∷ [])) else None) ≡ Some (opened.Call name (arguments ++ last ∷ []))
-room_is_left arguments last more name few = cond-true (nat_lt (length arguments) 254) _ _ (lt-ltb (length arguments) 254 (omega arith))
+room_is_left : (arguments : List Node) (last : Node) (more : ℕ) (callee : Callee) → length arguments + (2 + more) ≤ 255 → (if nat_lt (length arguments) 254 then Some (opened.Call callee (arguments ++ last ∷ [])) else None) ≡ Some (opened.Call callee (arguments ++ last ∷ []))
+room_is_left arguments last more callee few = cond-true (nat_lt (length arguments) 254) _ _ (lt-ltb (length arguments) 254 (omega arith))
 
 -- a `,` behind an argument
-comma_run : (name : Name) (done : List Node) (minuses calls : ℕ) (frames : List Frame) (last x : Node) (rest : List Token) → (if nat_lt (length done) 254 then Some (opened.Call name (done ++ last ∷ [])) else None) ≡ Some (opened.Call name (done ++ last ∷ [])) → last ≡ x → option_and_then (λ (next : Turn). ran next rest) (option_map (λ more. (phases.Signs 0, with_frame more minuses calls frames)) (if nat_lt (length done) 254 then Some (opened.Call name (done ++ last ∷ [])) else None)) ≡ ran (phases.Signs 0, with_frame (opened.Call name (done ++ x ∷ [])) minuses calls frames) rest
-comma_run name done minuses calls frames last x rest room e =
+comma_run : (callee : Callee) (done : List Node) (minuses calls : ℕ) (frames : List Frame) (last x : Node) (rest : List Token) → (if nat_lt (length done) 254 then Some (opened.Call callee (done ++ last ∷ [])) else None) ≡ Some (opened.Call callee (done ++ last ∷ [])) → last ≡ x → option_and_then (λ (next : Turn). ran next rest) (option_map (λ more. (phases.Signs 0, with_frame more minuses calls frames)) (if nat_lt (length done) 254 then Some (opened.Call callee (done ++ last ∷ [])) else None)) ≡ ran (phases.Signs 0, with_frame (opened.Call callee (done ++ x ∷ [])) minuses calls frames) rest
+comma_run callee done minuses calls frames last x rest room e =
     ap (λ (o : Option Opened). option_and_then (λ (next : Turn). ran next rest) (option_map (λ more. (phases.Signs 0, with_frame more minuses calls frames)) o)) room
-    ∙ ap (λ node. ran (phases.Signs 0, with_frame (opened.Call name (done ++ node ∷ [])) minuses calls frames) rest) e
+    ∙ ap (λ node. ran (phases.Signs 0, with_frame (opened.Call callee (done ++ node ∷ [])) minuses calls frames) rest) e
 
 -- the arguments of a call behind those that are done, and its `)`
-arguments_run : (xs : List Node) (x : Node) (done : List Node) (name : Name) (minuses calls : ℕ) (frames : List Frame) (inner : List Token) → All AreTaken (x ∷ xs) → length done + length (x ∷ xs) ≤ 255 → AreArguments (map IsWritten (x ∷ xs)) inner → ran (phases.Signs 0, with_frame (opened.Call name done) minuses calls frames) (inner ++ tokens.Close ∷ []) ≡ Some (phases.After (signed_node minuses (nodes.Call name (done ++ x ∷ xs))), frames)
-arguments_run [] x done name minuses calls frames inner each few w =
-    let frame = opened_frame (opened.Call name done) minuses calls in
+arguments_run : (xs : List Node) (x : Node) (done : List Node) (callee : Callee) (minuses calls : ℕ) (frames : List Frame) (inner : List Token) → All AreTaken (x ∷ xs) → length done + length (x ∷ xs) ≤ 255 → AreArguments (map IsWritten (x ∷ xs)) inner → ran (phases.Signs 0, with_frame (opened.Call callee done) minuses calls frames) (inner ++ tokens.Close ∷ []) ≡ Some (phases.After (signed_node minuses (nodes.Call callee (done ++ x ∷ xs))), frames)
+arguments_run [] x done callee minuses calls frames inner each few w =
+    let frame = opened_frame (opened.Call callee done) minuses calls in
     let taken = All-head AreTaken x [] each in
     let last = taken.placed 0 inner (omega arith) w frame frames [] tt in
-    let whole = ap (λ node. Some (phases.After (signed_node minuses (nodes.Call name (done ++ node ∷ []))), frames)) last.ends in
-    ran_through (phases.Signs 0, with_chains frame frames []) (phases.After last.operand, with_chains frame frames last.left) (phases.After (signed_node minuses (nodes.Call name (done ++ x ∷ []))), frames) inner (tokens.Close ∷ []) last.runs whole
-arguments_run (y ∷ ys) x done name minuses calls frames inner each few w =
-    let frame = opened_frame (opened.Call name done) minuses calls in
+    let whole = ap (λ node. Some (phases.After (signed_node minuses (nodes.Call callee (done ++ node ∷ []))), frames)) last.ends in
+    ran_through (phases.Signs 0, with_chains frame frames []) (phases.After last.operand, with_chains frame frames last.left) (phases.After (signed_node minuses (nodes.Call callee (done ++ x ∷ []))), frames) inner (tokens.Close ∷ []) last.runs whole
+arguments_run (y ∷ ys) x done callee minuses calls frames inner each few w =
+    let frame = opened_frame (opened.Call callee done) minuses calls in
     let taken = All-head AreTaken x (y ∷ ys) each in
     let one = taken.placed 0 w.0 (omega arith) w.3 frame frames [] tt in
     let more = length-append done (x ∷ []) in
-    let rest = arguments_run ys y (done ++ x ∷ []) name minuses calls frames w.1 (All-tail AreTaken x (y ∷ ys) each) (omega (arith, more)) w.4 in
-    let room = room_is_left done (tree_of_chains one.operand one.left) (length ys) name (omega arith) in
-    let step = comma_run name done minuses calls frames (tree_of_chains one.operand one.left) x (w.1 ++ tokens.Close ∷ []) room one.ends in
-    let whole = ap (λ arguments. Some (phases.After (signed_node minuses (nodes.Call name arguments)), frames)) (append_assoc done (x ∷ []) (y ∷ ys)) in
+    let rest = arguments_run ys y (done ++ x ∷ []) callee minuses calls frames w.1 (All-tail AreTaken x (y ∷ ys) each) (omega (arith, more)) w.4 in
+    let room = room_is_left done (tree_of_chains one.operand one.left) (length ys) callee (omega arith) in
+    let step = comma_run callee done minuses calls frames (tree_of_chains one.operand one.left) x (w.1 ++ tokens.Close ∷ []) room one.ends in
+    let whole = ap (λ arguments. Some (phases.After (signed_node minuses (nodes.Call callee arguments)), frames)) (append_assoc done (x ∷ []) (y ∷ ys)) in
     ap (λ v. ran (phases.Signs 0, with_chains frame frames []) (v ++ tokens.Close ∷ [])) w.2
     ∙ ap (ran (phases.Signs 0, with_chains frame frames [])) (append_assoc w.0 (tokens.Comma ∷ w.1) (tokens.Close ∷ []))
     ∙ ran_behind (phases.Signs 0, with_chains frame frames []) (phases.After one.operand, with_chains frame frames one.left) w.0 (tokens.Comma ∷ (w.1 ++ tokens.Close ∷ [])) one.runs
@@ -151,8 +151,8 @@ arguments_run (y ∷ ys) x done name minuses calls frames inner each few w =
     ∙ whole
 
 -- a whole call behind signs
-pub call_run : (name : Name) (arguments : List Node) (own : List Token) → All AreTaken arguments → (length arguments ≤ 255) × IsEnclosed (tokens.Call name) (AreArguments (map IsWritten arguments)) own → IsTakenAlone (nodes.Call name arguments) own
-call_run name [] own each w minuses frames = ap (ran (phases.Signs minuses, frames)) (w.1.1 ∙ ap (λ inner. tokens.Call name ∷ (inner ++ tokens.Close ∷ [])) w.1.2)
-call_run name (x ∷ xs) own each w minuses frames =
+pub call_run : (callee : Callee) (arguments : List Node) (own : List Token) → All AreTaken arguments → (length arguments ≤ 255) × IsEnclosed (tokens.Call callee) (AreArguments (map IsWritten arguments)) own → IsTakenAlone (nodes.Call callee arguments) own
+call_run callee [] own each w minuses frames = ap (ran (phases.Signs minuses, frames)) (w.1.1 ∙ ap (λ inner. tokens.Call callee ∷ (inner ++ tokens.Close ∷ [])) w.1.2)
+call_run callee (x ∷ xs) own each w minuses frames =
     let few : length {A = Node} [] + length (x ∷ xs) ≤ 255 = omega (arith, w.0) in
-    ap (ran (phases.Signs minuses, frames)) w.1.1 ∙ start_run (with_frame (opened.Call name []) minuses (suc (calls_open frames)) frames) frames (w.1.0 ++ tokens.Close ∷ []) (signed_node minuses (nodes.Call name (x ∷ xs))) (arguments_run xs x [] name minuses (suc (calls_open frames)) frames w.1.0 each few w.1.2)
+    ap (ran (phases.Signs minuses, frames)) w.1.1 ∙ start_run (with_frame (opened.Call callee []) minuses (suc (calls_open frames)) frames) frames (w.1.0 ++ tokens.Close ∷ []) (signed_node minuses (nodes.Call callee (x ∷ xs))) (arguments_run xs x [] callee minuses (suc (calls_open frames)) frames w.1.0 each few w.1.2)

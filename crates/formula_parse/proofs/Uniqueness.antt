@@ -6,7 +6,7 @@ use Rattle.formula_parse.specs.declared.nodes.Node.{Node}
 use Rattle.formula_parse.specs.declared.reader.Reader.{Reader}
 use Rattle.formula_parse.specs.declared.tokens.Token.{Token}
 use Rattle.formula_parse.specs.Faults.{IsUnlimitedFormula}
-use Rattle.formula_parse.specs.Reading.{Turn, tree_at_end, first_reader}
+use Rattle.formula_parse.specs.ReaderMachine.{Turn, tree_at_end, first_reader}
 use Rattle.formula_parse.specs.Tokens.{IsSpelled, are_spaces}
 use Rattle.formula_parse.proofs.Machine.{first_turn, ran, ended_behind}
 use Rattle.formula_parse.proofs.MachineLaws.{what_is_written_is_read}

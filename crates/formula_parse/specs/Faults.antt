@@ -6,8 +6,7 @@ use Rattle.formula_parse.specs.declared.nodes.Node.{Node}
 use Rattle.formula_parse.specs.declared.tokens.Token.{Token}
 use Rattle.formula_parse.specs.declared.tokens.Token.TheVariants as tokens
 use Rattle.formula_parse.specs.Grammar.{IsWritten}
-use Rattle.formula_parse.specs.Reading.{is_wide_area, is_large_number}
-use Rattle.formula_parse.specs.Tokens.{IsSpelled}
+use Rattle.formula_parse.specs.Tokens.{is_wide_area, is_large_number, IsSpelled}
 
 -- `=` and these tokens, which write the tree, without limits on length, depth, areas and numbers
 pub record IsUnlimitedFormula (text : List ℕ) (written : List Token) (tree : Node) : Type 0 where
@@ -19,7 +18,7 @@ pub record IsUnlimitedFormula (text : List ℕ) (written : List Token) (tree : N
 -- what tokens leave open, the innermost first: a call is true, a parenthesis false
 abbrev pub open_behind : List Bool → List Token → List Bool
 open_behind outer [] = outer
-open_behind outer (tokens.Call name ∷ written) = open_behind (true ∷ outer) written
+open_behind outer (tokens.Call callee ∷ written) = open_behind (true ∷ outer) written
 open_behind outer (tokens.Open ∷ written) = open_behind (false ∷ outer) written
 open_behind outer (tokens.Close ∷ written) = open_behind (drop 1 outer) written
 open_behind outer (other ∷ written) = open_behind outer written

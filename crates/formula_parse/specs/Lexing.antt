@@ -1,4 +1,4 @@
--- The token at the front of a text, and how much of a text an operand begins with.
+-- For the crate's own functions: the token that a text begins with, and how much of a text an operand begins with.
 use Rattle.std.specs.Prelude.{ℕ, ◌+◌, ◌-◌, ◌*◌, min, max, Bool, true, false, not, ◌&&◌, ◌||◌, if◌then◌else◌, ◌==◌, nat_lt, nat_le, List, [], ◌∷◌, length, map, take, drop, take_while, slice_index, Option, Some, None, is_none, option_map, codes}
 use Rattle.std.specs.List.{list_any, find, position_or_len}
 use Rattle.std.specs.Char.{is_ascii_digit, is_ascii_alphabetic, is_ascii_control, to_ascii_uppercase}
@@ -11,6 +11,7 @@ use Rattle.cell_values.specs.declared.errors.ErrorKind.{ErrorKind}
 use Rattle.cell_values.specs.declared.errors.ErrorKind.TheVariants as errors
 use Rattle.cell_values.specs.Error.{error_word}
 use Rattle.cell_values.specs.Name.{is_name, is_name_byte}
+use Rattle.formula_parse.specs.Callees.{callee_named}
 use Rattle.formula_parse.specs.declared.operators.Operator.{Operator}
 use Rattle.formula_parse.specs.declared.operators.Operator.TheVariants as operators
 use Rattle.formula_parse.specs.declared.tokens.Token.{Token}
@@ -75,7 +76,7 @@ reference_found text (Some found) =
 -- what letters, digits, `.` and `_` at the front of a text come to: a call, a boolean, or the front of a reference
 abbrev pub word_found : List ℕ → List ℕ → Option (Token × ℕ)
 word_found text word =
-    if passes_at (λ b. b == 40) text (length word) && is_name word then Some (tokens.Call (capitals word), length word + 1)
+    if passes_at (λ b. b == 40) text (length word) && is_name word then Some (tokens.Call (callee_named (capitals word)), length word + 1)
     else (if bytes_eq (capitals word) (codes "TRUE") then Some (tokens.Boolean true, 4)
     else (if bytes_eq (capitals word) (codes "FALSE") then Some (tokens.Boolean false, 5)
     else reference_found text (reference_at text)))

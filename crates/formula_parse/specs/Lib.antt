@@ -1,9 +1,12 @@
--- What the contracts of this crate cite.
+-- What the product means.
+pub mod Callees
 pub mod Faults
 pub mod Grammar
-pub mod Lexing
+pub mod Parsing
 pub mod Printing
-pub mod Reading
 pub mod Tokens
 pub mod Tree
+-- What the crate's own functions keep.
+pub mod Lexing
+pub mod ReaderMachine
 pub mod Turns

@@ -12,6 +12,7 @@ use Rattle.formula_parse.specs.declared.operators.Operator.{Operator}
 use Rattle.formula_parse.specs.declared.operators.Operator.TheVariants as operators
 use Rattle.formula_parse.specs.declared.tokens.Token.{Token}
 use Rattle.formula_parse.specs.declared.tokens.Token.TheVariants as tokens
+use Rattle.formula_parse.specs.Callees.{callee_text}
 use Rattle.formula_parse.specs.Tokens.{boolean_word, operator_text}
 
 -- a token in its canonical form
@@ -22,7 +23,7 @@ token_text (tokens.Error e) = error_word e
 token_text (tokens.Boolean b) = boolean_word b
 token_text (tokens.Reference r) = reference_text r
 token_text (tokens.Area a b) = reference_text a ++ 58 ∷ reference_text b
-token_text (tokens.Call name) = name ++ 40 ∷ []
+token_text (tokens.Call callee) = callee_text callee ++ 40 ∷ []
 token_text tokens.Open = codes "("
 token_text tokens.Close = codes ")"
 token_text tokens.Comma = codes ","
@@ -48,7 +49,7 @@ tokens_step (layer.Error e) = tokens.Error e ∷ []
 tokens_step (layer.Boolean b) = tokens.Boolean b ∷ []
 tokens_step (layer.Reference r) = tokens.Reference r ∷ []
 tokens_step (layer.Area a b) = tokens.Area a b ∷ []
-tokens_step (layer.Call name arguments) = tokens.Call name ∷ (argument_tokens arguments ++ tokens.Close ∷ [])
+tokens_step (layer.Call callee arguments) = tokens.Call callee ∷ (argument_tokens arguments ++ tokens.Close ∷ [])
 tokens_step (layer.Parentheses inner) = tokens.Open ∷ (inner ++ tokens.Close ∷ [])
 tokens_step (layer.Negation count operand) = replicate count (tokens.Operator operators.Subtract) ++ operand
 tokens_step (layer.Chain operands ops) = chain_tokens operands ops

@@ -1,13 +1,15 @@
 -- The tokens of a formula, and the pieces of text that write them.
-use Rattle.std.specs.Prelude.{◌≡◌, ℕ, ℤ, pos, min, Bool, true, false, ◌||◌, ◌==◌, List, [], ◌∷◌, ◌++◌, length, Some, None, codes}
+use Rattle.std.specs.Prelude.{◌≡◌, ℕ, ℤ, pos, min, int_lt, nat_lt, Bool, true, false, ◌||◌, ◌==◌, List, [], ◌∷◌, ◌++◌, length, Some, None, codes}
 use Rattle.std.specs.List.{list_all, list_any}
 use Rattle.std.specs.Char.{is_ascii_digit, is_ascii_control}
 use Rattle.std.specs.Str.Parse.{IsNumeral, digits_value}
+use Rattle.cell_refs.specs.Area.{area_of, size_of}
 use Rattle.cell_refs.specs.Written.{reference_at, capitals}
 use Rattle.cell_values.specs.declared.comparison.CompareOp.TheVariants as compare
 use Rattle.cell_values.specs.Error.{error_word}
 use Rattle.cell_values.specs.Name.{is_name, is_name_byte}
 use Rattle.cell_values.specs.Word.{quotation_of}
+use Rattle.formula_parse.specs.Callees.{callee_named}
 use Rattle.formula_parse.specs.declared.operators.Operator.{Operator}
 use Rattle.formula_parse.specs.declared.operators.Operator.TheVariants as operators
 use Rattle.formula_parse.specs.declared.tokens.Token.{Token}
@@ -36,7 +38,7 @@ operator_text operators.Subtract = codes "-"
 operator_text operators.Multiply = codes "*"
 operator_text operators.Divide = codes "/"
 
--- a piece of text writes a token: digits a number, a quoted text without control characters a text, an error word in any case an error, `TRUE` or `FALSE` in any case a boolean, a reference inside the grid itself, two with a `:` between them and no sheet at the second an area, a name and `(` a call of the name in upper case
+-- a piece of text writes a token: digits a number, a quoted text without control characters a text, an error word in any case an error, `TRUE` or `FALSE` in any case a boolean, a reference inside the grid itself, two with a `:` between them and no sheet at the second an area, a name and `(` a call of the callee that the name in upper case has
 abbrev pub Writes : List ℕ → Token → Type 0
 Writes piece (tokens.Number n) = IsNumeral 10 piece × (n ≡ number_value piece)
 Writes piece (tokens.Text t) = (piece ≡ quotation_of t) × (list_any is_ascii_control t ≡ false)
@@ -44,11 +46,21 @@ Writes piece (tokens.Error e) = capitals piece ≡ error_word e
 Writes piece (tokens.Boolean b) = capitals piece ≡ boolean_word b
 Writes piece (tokens.Reference r) = reference_at piece ≡ Some (r, length piece)
 Writes piece (tokens.Area a b) = (front back : List ℕ) × (piece ≡ front ++ 58 ∷ back) × (reference_at front ≡ Some (a, length front)) × (reference_at back ≡ Some (b, length back)) × (b.sheet ≡ None)
-Writes piece (tokens.Call name) = (written : List ℕ) × (piece ≡ written ++ 40 ∷ []) × (is_name written ≡ true) × (name ≡ capitals written)
+Writes piece (tokens.Call callee) = (written : List ℕ) × (piece ≡ written ++ 40 ∷ []) × (is_name written ≡ true) × (callee ≡ callee_named (capitals written))
 Writes piece tokens.Open = piece ≡ codes "("
 Writes piece tokens.Close = piece ≡ codes ")"
 Writes piece tokens.Comma = piece ≡ codes ","
 Writes piece (tokens.Operator op) = piece ≡ operator_text op
+
+-- whether a token is an area of over 65,536 cells
+abbrev pub is_wide_area : Token → Bool
+is_wide_area (tokens.Area a b) = nat_lt 65536 (size_of (area_of a b 1))
+is_wide_area other = false
+
+-- whether a token is a number over 999,999,999,999,999
+abbrev pub is_large_number : Token → Bool
+is_large_number (tokens.Number n) = int_lt (pos 999999999999999) n
+is_large_number other = false
 
 -- whether a byte goes on with a name or makes it a call: a letter, a digit, `.`, `_` or `(`
 abbrev pub is_word_byte : ℕ → Bool
@@ -62,7 +74,7 @@ goes_on (tokens.Error e) b = false
 goes_on (tokens.Boolean v) b = is_word_byte b
 goes_on (tokens.Reference r) b = is_word_byte b || b == 58
 goes_on (tokens.Area first second) b = is_word_byte b
-goes_on (tokens.Call name) b = false
+goes_on (tokens.Call callee) b = false
 goes_on tokens.Open b = false
 goes_on tokens.Close b = false
 goes_on tokens.Comma b = false

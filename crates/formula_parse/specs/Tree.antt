@@ -1,11 +1,11 @@
 -- What a tree names and calls, from left to right.
-use Rattle.std.specs.Prelude.{ℕ, Bool, ◌||◌, if◌then◌else◌, is_some, List, [], ◌∷◌, length, codes}
-use Rattle.std.specs.List.{flat_map}
-use Rattle.std.specs.Str.{bytes_eq}
+use Rattle.std.specs.Prelude.{ℕ, Bool, List, [], ◌∷◌, length}
+use Rattle.std.specs.List.{filter_map, flat_map, list_any}
 use Rattle.cell_refs.specs.declared.areas.Area.{Area}
 use Rattle.cell_refs.specs.declared.grid.Cell.{Cell}
 use Rattle.cell_refs.specs.Area.{area_of, cells_of}
-use Rattle.functions.specs.Functions.{function_named}
+use Rattle.formula_parse.specs.Callees.{added_name, is_rtd}
+use Rattle.formula_parse.specs.declared.callees.Callee.{Callee}
 use Rattle.formula_parse.specs.declared.nodes.Node.{Node}
 use Rattle.formula_parse.specs.declared.nodes.Node.TheFolds.{fold-Node}
 use Rattle.formula_parse.specs.declared.nodes.Node.TheOpen.{Node-F}
@@ -41,27 +41,31 @@ areas_named tree home = fold-Node (List Area) (areas_step home) tree
 abbrev pub precedents : Node → ℕ → List Cell
 precedents tree home = flat_map cells_of (areas_named tree home)
 
--- whether a name is that of a function or `RTD`
-abbrev pub is_built_in : List ℕ → Bool
-is_built_in name = is_some (function_named name) || bytes_eq name (codes "RTD")
-
--- the calls of one part of a tree, over those of its parts
-abbrev pub calls_step : Node-F (List (List ℕ)) → List (List ℕ)
+-- the callees of one part of a tree, over those of its parts
+abbrev pub calls_step : Node-F (List Callee) → List Callee
 calls_step (layer.Number n) = []
 calls_step (layer.Text t) = []
 calls_step (layer.Error e) = []
 calls_step (layer.Boolean b) = []
 calls_step (layer.Reference r) = []
 calls_step (layer.Area a b) = []
-calls_step (layer.Call name arguments) = if is_built_in name then concat arguments else name ∷ concat arguments
+calls_step (layer.Call callee arguments) = callee ∷ concat arguments
 calls_step (layer.Parentheses inner) = inner
 calls_step (layer.Negation count operand) = operand
 calls_step (layer.Chain operands operators) = concat operands
 
--- the names that are neither built in nor `RTD`, one for each call of them, by the place of the name in the text
+-- the callees of a tree, one for each call, by the place of the name in the text
+abbrev pub calls_of : Node → List Callee
+calls_of = fold-Node (List Callee) calls_step
+
+-- the names of added functions that a tree calls, one for each call of them
 abbrev pub sites_named : Node → List (List ℕ)
-sites_named = fold-Node (List (List ℕ)) calls_step
+sites_named tree = filter_map added_name (calls_of tree)
 
 -- how many such calls there are
 abbrev pub site_count : Node → ℕ
 site_count tree = length (sites_named tree)
+
+-- whether a tree calls RTD
+abbrev pub has_rtd_call : Node → Bool
+has_rtd_call tree = list_any is_rtd (calls_of tree)

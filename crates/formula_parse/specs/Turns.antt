@@ -1,9 +1,9 @@
--- What the parser's turns answer.
+-- For the crate's own functions: what the parser's turns answer.
 use Rattle.std.specs.Prelude.{◌≡◌, ℕ, ◌≤◌, false, List, drop, Result, Ok, Err}
 use Rattle.formula_parse.specs.declared.faults.ParseFault.{ParseFault}
 use Rattle.formula_parse.specs.declared.parser.Read.{Read}
 use Rattle.formula_parse.specs.declared.parser.Read.TheVariants.{Formula, Token}
-use Rattle.formula_parse.specs.Reading.{Read as Said, Answer, Onward, minuses_in, is_too_deep}
+use Rattle.formula_parse.specs.ReaderMachine.{Read as Said, Answer, Onward, minuses_in, is_too_deep}
 
 -- a turn in a text as it is told: an answer, or the reader, its place and the text behind it
 abbrev pub read_of : List ℕ → Result Read ParseFault → Said

@@ -8,7 +8,7 @@ ghost use Rattle.formula_parse.specs.declared.nodes.Node.{Node};
 ghost use Rattle.std.specs.Str.{is_utf8};
 ghost use Rattle.formula_parse.specs.Faults.{IsFormula, IsShort, IsTooDeep, IsSyntaxFault, IsRangeFault, IsNumberFault};
 ghost use Rattle.formula_parse.specs.Printing.{canonical_text};
-ghost use Rattle.formula_parse.specs.Reading.{formula_of, parse_result};
+ghost use Rattle.formula_parse.specs.Parsing.{formula_of, parse_result};
 
 /// Reading a text from left to right gives exactly the tree that the grammar lets it write.
 pub fn reading_gives_what_is_written()

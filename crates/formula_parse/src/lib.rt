@@ -1,6 +1,7 @@
 //! The grammar of formulas: texts and their trees, both ways.
 #![tactic(auto)]
 
+mod callees;
 mod faults;
 mod laws;
 mod lexing;
@@ -16,12 +17,13 @@ mod tests;
 mod tokens;
 mod trees;
 
+pub use callees::Callee;
 pub use faults::ParseFault;
 pub use laws::{
     a_text_has_one_tree, each_fault_has_its_cause, reading_gives_what_is_written,
     trees_are_within_limits, what_is_printed_reads_back,
 };
-pub use naming::{names, sites};
+pub use naming::{CallTest, any_call, has_rtd_call, names, sites};
 pub use nodes::Node;
 pub use operators::Operator;
 pub use parser::parse;

@@ -1,12 +1,15 @@
-ghost use Rattle.std.specs.Prelude.{◌≡◌, ◌≤◌, [], ◌∷◌, ◌++◌, length, map, min, All, IfOk, OnOk};
+ghost use Rattle.std.specs.Prelude.{◌≡◌, ◌≤◌, Bool, [], ◌∷◌, ◌++◌, length, map, min, All, IfOk, OnOk};
+ghost use Rattle.std.specs.List.{list_any};
 ghost use Rattle.cell_refs.specs.Area.{IsArea, size_of};
-ghost use Rattle.formula_parse.specs.Tree.{areas_named, concat, is_built_in, site_count, sites_named};
+ghost use Rattle.formula_parse.specs.Callees.{is_rtd};
+ghost use Rattle.formula_parse.specs.declared.callees.Callee.{Callee};
+ghost use Rattle.formula_parse.specs.Tree.{areas_named, calls_of, concat, has_rtd_call, site_count, sites_named};
 
+use super::callees::Callee;
 use super::nodes::Node;
 use super::trees::Tree;
 use cell_refs::Area;
-use cell_values::{Memory, Name};
-use functions::Function;
+use cell_values::Memory;
 use std::alloc::Global;
 
 /// The areas that a formula on the sheet home names: one for each written reference or area, from
@@ -78,8 +81,8 @@ fn count_sites(node: &Node) -> u16
         | Node::Boolean(_)
         | Node::Reference(_)
         | Node::Area(_, _) => 0,
-        Node::Call { name, arguments } => {
-            count_all_sites(arguments.as_slice()).saturating_add(u16::from(!is_known(name)))
+        Node::Call { callee, arguments } => {
+            count_all_sites(arguments.as_slice()).saturating_add(u16::from(callee.is_added()))
         }
         Node::Parentheses(inner) => count_sites(inner.get()),
         Node::Negation { operand, .. } => count_sites(operand.get()),
@@ -99,9 +102,70 @@ fn count_all_sites(nodes: &[Node]) -> u16
     count
 }
 
-/// Whether a name is that of a function or `RTD`.
-fn is_known(name: &Name) -> bool
-    ensures { result ≡ is_built_in name.now }
+/// A test of what a formula calls.
+pub trait CallTest {
+    ghost passes: { Self → Callee → Bool };
+
+    /// Whether a callee passes the test.
+    fn passes(&self, callee: &Callee) -> bool
+        ensures { result ≡ passes self.now callee.now };
+}
+
+/// Whether some call of a formula passes a test.
+pub fn any_call<T: CallTest>(t: &Tree, test: &T) -> bool
+    ensures { result ≡ list_any (T.passes test.now) (calls_of t.now) }
 {
-    Function::of(name.as_str()).is_some() || name.as_str() == "RTD"
+    calls_any(t.root(), test)
+}
+
+/// Whether some call in a part of a formula passes a test.
+#[cycle(calls_any)]
+fn calls_any<T: CallTest>(node: &Node, test: &T) -> bool
+    ensures { result ≡ list_any (T.passes test.now) (calls_of node.now) }
+{
+    match node {
+        Node::Number(_)
+        | Node::Text(_)
+        | Node::Error(_)
+        | Node::Boolean(_)
+        | Node::Reference(_)
+        | Node::Area(_, _) => false,
+        Node::Call { callee, arguments } => {
+            test.passes(callee) || all_calls_any(arguments.as_slice(), test)
+        }
+        Node::Parentheses(inner) => calls_any(inner.get(), test),
+        Node::Negation { operand, .. } => calls_any(operand.get(), test),
+        Node::Chain { operands, .. } => all_calls_any(operands.as_slice(), test),
+    }
+}
+
+/// Whether some call in several parts of a formula passes a test.
+#[cycle(calls_any)]
+fn all_calls_any<T: CallTest>(nodes: &[Node], test: &T) -> bool
+    ensures { result ≡ list_any (T.passes test.now) (concat (map calls_of nodes.now)) }
+{
+    for node in nodes {
+        if calls_any(node, test) {
+            return true;
+        }
+    }
+    false
+}
+
+/// The test for RTD.
+struct RtdTest;
+
+impl CallTest for RtdTest {
+    ghost passes = { λ _. is_rtd };
+
+    fn passes(&self, callee: &Callee) -> bool {
+        callee.is_rtd()
+    }
+}
+
+/// Whether a formula calls RTD.
+pub fn has_rtd_call(t: &Tree) -> bool
+    ensures { result ≡ has_rtd_call t.now }
+{
+    any_call(t, &RtdTest)
 }

@@ -1,6 +1,7 @@
+use super::callees::Callee;
 use super::operators::Operator;
 use cell_refs::RefText;
-use cell_values::{ErrorKind, Name, Text};
+use cell_values::{ErrorKind, Text};
 use sqlite_items::{Boxed, Items};
 
 /// A part of a formula.
@@ -13,7 +14,7 @@ pub enum Node {
     Reference(RefText),
     Area(RefText, RefText),
     Call {
-        name: Name,
+        callee: Callee,
         arguments: Items<Node>,
     },
     Parentheses(Boxed<Node>),

@@ -2,7 +2,8 @@ ghost use Rattle.std.specs.Prelude.{◌≡◌, ◌⊎◌, ◌↔◌, ◌<◌, �
 ghost use Rattle.formula_parse.specs.Lexing.{begun_len};
 ghost use Rattle.std.specs.Str.{chars};
 ghost use Rattle.formula_parse.specs.Faults.{IsFormula, IsShort, IsTooDeep, IsSyntaxFault, IsRangeFault, IsNumberFault};
-ghost use Rattle.formula_parse.specs.Reading.{formula_of, is_too_long, parse_result, read_text, read_from, read_next, at_end, tree_at_end, gap_len, first_reader, begun_behind, minuses_in, is_too_deep, Answer};
+ghost use Rattle.formula_parse.specs.ReaderMachine.{read_text, read_from, read_next, at_end, tree_at_end, gap_len, first_reader, begun_behind, minuses_in, is_too_deep, Answer};
+ghost use Rattle.formula_parse.specs.Parsing.{formula_of, is_too_long, parse_result};
 ghost use Rattle.formula_parse.specs.Turns.{read_of, IsBefore, IsFormulaRead};
 
 use super::faults::ParseFault;
@@ -25,7 +26,7 @@ pub(crate) enum Read {
 const CHARACTERS: usize = 8_192;
 
 /// The tree of the formula that the text is.
-#[tactic(auto, unfolding(crate::specs::Reading::parse_result))]
+#[tactic(auto, unfolding(crate::specs::Parsing::parse_result))]
 pub fn parse(alloc: Global, text: &str) -> Result<Tree, ParseFault>
     ensures ok { IfOk result (λ tree. IsFormula text.now tree) }
     ensures read { IfOk result (λ tree. formula_of text.now ≡ Some tree) }

@@ -3,7 +3,7 @@ ghost use Rattle.std.specs.List.{flat_map};
 ghost use Rattle.cell_refs.specs.Written.{reference_text};
 ghost use Rattle.formula_parse.specs.declared.operators.Operator.TheVariants as operators;
 ghost use Rattle.formula_parse.specs.Printing.{canonical_text, token_text, tokens_of, argument_tokens, chain_tokens};
-ghost use Rattle.formula_parse.specs.Reading.{formula_of};
+ghost use Rattle.formula_parse.specs.Parsing.{formula_of};
 ghost use Rattle.formula_parse.specs.Tokens.{operator_text};
 
 use super::nodes::Node;
@@ -53,8 +53,8 @@ fn push_node(node: &Node, out: &mut Vec<u8>) -> Result<(), Memory>
         Node::Boolean(b) => print_value(&Value::Bool(*b), out),
         Node::Reference(reference) => push_reference(reference, out),
         Node::Area(first, second) => push_corners(first, second, out),
-        Node::Call { name, arguments } => {
-            push_bytes(name.as_str().as_bytes(), out)?;
+        Node::Call { callee, arguments } => {
+            push_bytes(callee.text().as_bytes(), out)?;
             push_bytes(b"(", out)?;
             push_arguments(arguments.as_slice(), out)?;
             push_bytes(b")", out)

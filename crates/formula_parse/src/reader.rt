@@ -5,14 +5,15 @@ mod operands;
 mod operators;
 
 ghost use Rattle.std.specs.Prelude.{◌≡◌, ◌+◌, ◌<◌, ◌≤◌, ◌^◌, Some, IfOk, false};
-ghost use Rattle.formula_parse.specs.Reading.{reader_behind, turn_at, first_reader, is_too_deep, tree_at_end, awaits_operand, minuses_in, calls_open, is_wide_area, is_large_number};
+ghost use Rattle.formula_parse.specs.ReaderMachine.{reader_behind, turn_at, first_reader, is_too_deep, tree_at_end, awaits_operand, minuses_in, calls_open};
+ghost use Rattle.formula_parse.specs.Tokens.{is_wide_area, is_large_number};
 
+use super::callees::Callee;
 use super::nodes::Node;
 use super::operators::Operator;
 use super::stack::Stack;
 use super::tokens::Token;
 use cell_refs::Area;
-use cell_values::Name;
 use sqlite_items::Items;
 use std::alloc::{AllocError, Global};
 
@@ -39,7 +40,10 @@ pub(crate) enum Opened {
     Formula,
     Parentheses,
     /// A call, and its arguments so far.
-    Call { name: Name, arguments: Items<Node> },
+    Call {
+        callee: Callee,
+        arguments: Items<Node>,
+    },
 }
 
 /// What stands open at a place of the text, and the chains that go on in it.
@@ -100,7 +104,7 @@ impl Reader {
     }
 
     /// The reader behind a token; None where no formula goes on with it.
-    #[tactic(auto, unfolding(crate::specs::Reading::reader_behind))]
+    #[tactic(auto, unfolding(crate::specs::ReaderMachine::reader_behind))]
     pub(crate) fn with(self, alloc: Global, token: Token) -> Result<Option<Reader>, AllocError>
         requires few { minuses_in self.phase + 1 < 2 ^ 32 }
         requires shallow { is_too_deep self.frames ≡ false }

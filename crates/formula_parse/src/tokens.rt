@@ -1,6 +1,7 @@
+use super::callees::Callee;
 use super::operators::Operator;
 use cell_refs::RefText;
-use cell_values::{ErrorKind, Name, Text};
+use cell_values::{ErrorKind, Text};
 
 /// A token of a formula.
 #[derive(Debug, Drop)]
@@ -12,7 +13,7 @@ pub enum Token {
     Reference(RefText),
     Area(RefText, RefText),
     /// A name directly followed by `(`.
-    Call(Name),
+    Call(Callee),
     Open,
     Close,
     Comma,

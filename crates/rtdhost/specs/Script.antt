@@ -13,7 +13,7 @@ use Rattle.cell_refs.specs.Written.{reference_at}
 use Rattle.cell_values.specs.Coercion.{truth_of_text}
 use Rattle.cell_values.specs.Digits.{whole_number, below_zero}
 use Rattle.cell_values.specs.Word.{kind_of_word, text_of_bytes}
-use Rattle.formula_parse.specs.Reading.{formula_of}
+use Rattle.formula_parse.specs.Parsing.{formula_of}
 use Rattle.workbook.specs.declared.contents.Content.{Content}
 use Rattle.workbook.specs.declared.contents.Content.TheVariants as contents
 use Rattle.workbook.specs.declared.commands.BeginKind.TheVariants.{Dirty}

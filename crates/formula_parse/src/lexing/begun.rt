@@ -7,13 +7,11 @@ ghost use Rattle.cell_refs.specs.Written.{reference_at, capitals};
 ghost use Rattle.cell_refs.specs.Reading.{sheet_at};
 ghost use Rattle.formula_parse.specs.Lexing.{begun_len, error_begun, word_begun, name_begun, column_begun, row_begun, mark_len, plain_begun, corner_begun, reference_begun, sheet_len, common_len};
 
-use super::words::{begins_with, common_len, word_len};
+use super::words::{NAME, begins_with, common_len, word_len};
 use super::{digits_len, stands_at, value};
 use cell_refs::read_ref;
 use cell_values::ErrorKind;
 
-/// The greatest length of a name.
-const NAME: usize = 255;
 /// The last column and the last row of the grid.
 const COLUMNS: u64 = 16_384;
 

@@ -4,15 +4,20 @@ ghost use Rattle.std.specs.Str.{bytes_eq};
 ghost use Rattle.cell_refs.specs.Written.{reference_at, capitals};
 ghost use Rattle.cell_values.specs.Error.{error_word};
 ghost use Rattle.cell_values.specs.Name.{is_name, is_name_byte};
+ghost use Rattle.formula_parse.specs.Callees.{callee_named};
 ghost use Rattle.formula_parse.specs.Lexing.{error_at, word_at, word_found, reference_found, area_behind, all_errors, begins_with, common_len, passes_at};
 ghost use Rattle.formula_parse.specs.Tokens.{is_word_byte};
 
+use super::super::callees::Callee;
 use super::super::faults::ParseFault;
 use super::super::tokens::Token;
 use super::{Found, stands_at};
 use cell_refs::{RefText, read_ref};
-use cell_values::{ErrorKind, Name, NameFault};
+use cell_values::ErrorKind;
 use std::alloc::{AllocError, Global};
+
+/// The greatest length of a name.
+pub(super) const NAME: usize = 255;
 
 /// The error word at the front.
 pub(super) fn error(text: &[u8]) -> Found
@@ -76,8 +81,8 @@ pub(super) fn word(alloc: Global, text: &[u8]) -> Result<Found, ParseFault>
     let len = word_len(text);
     let word = &text[..len];
     if stands_at(text, len, b'(') {
-        if let Some(name) = name(alloc, word)? {
-            return Ok(Some((Token::Call(name), len + 1)));
+        if let Some(callee) = callee(alloc, word)? {
+            return Ok(Some((Token::Call(callee), len + 1)));
         }
     }
     if is_word(word, b"TRUE") {
@@ -102,19 +107,21 @@ fn is_name_byte(byte: u8) -> bool
     byte.is_ascii_alphanumeric() || byte == b'.' || byte == b'_'
 }
 
-/// The name that bytes are, in upper case.
-fn name(alloc: Global, word: &[u8]) -> Result<Option<Name>, AllocError>
-    ensures { IfOk result (λ name. name ≡ (if is_name word.now then Some (capitals word.now)
-        else None)) }
+/// The callee that bytes name, in any case; None where they are no name.
+fn callee(alloc: Global, word: &[u8]) -> Result<Option<Callee>, AllocError>
+    ensures { IfOk result (λ callee. callee ≡ (if is_name word.now
+        then Some (callee_named (capitals word.now)) else None)) }
 {
-    let Ok(word) = std::str::from_utf8(word) else {
+    if NAME < word.len() {
         return Ok(None);
-    };
-    let word = word.to_ascii_uppercase(alloc)?;
-    match Name::new(alloc, word.as_str()) {
-        Ok(name) => Ok(Some(name)),
-        Err(NameFault::Memory) => Err(AllocError),
-        Err(NameFault::Form) => Ok(None),
+    }
+    let mut letters = [0; NAME];
+    let upper = &mut letters[..word.len()];
+    upper.copy_from_slice(word);
+    upper.make_ascii_uppercase();
+    match std::str::from_utf8(upper) {
+        Ok(name) => Callee::named(alloc, name),
+        Err(_) => Ok(None),
     }
 }
 

@@ -1,6 +1,6 @@
 ghost use Rattle.std.specs.Prelude.{◌≡◌, [], ◌++◌, ◌∷◌, IfOk};
 ghost use Rattle.formula_parse.specs.Grammar.{place_of};
-ghost use Rattle.formula_parse.specs.Reading.{place_of_chain, chain_node, operand_in_chains, tree_of_chains, is_tighter, chains_behind, chains_with, signed_node};
+ghost use Rattle.formula_parse.specs.ReaderMachine.{place_of_chain, chain_node, operand_in_chains, tree_of_chains, is_tighter, chains_behind, chains_with, signed_node};
 
 use super::super::nodes::Node;
 use super::super::operators::Operator;

@@ -1,5 +1,5 @@
 ghost use Rattle.std.specs.Prelude.{◌≡◌, ◌+◌, ◌<◌, ◌^◌, false, IfOk};
-ghost use Rattle.formula_parse.specs.Reading.{operand_turn, empty_call, after_operand, operand_of, with_frame, calls_open, is_too_deep};
+ghost use Rattle.formula_parse.specs.ReaderMachine.{operand_turn, empty_call, after_operand, operand_of, with_frame, calls_open, is_too_deep};
 
 use super::super::nodes::Node;
 use super::super::operators::Operator;
@@ -29,10 +29,10 @@ pub(super) fn operand(
             let frames = with_frame(alloc, Opened::Parentheses, minuses, calls, frames)?;
             Ok(Some((Phase::Signs(0), frames)))
         }
-        Token::Call(name) => {
+        Token::Call(callee) => {
             let calls = calls_open(&frames) + 1;
             let arguments = Items::new(alloc);
-            let opened = Opened::Call { name, arguments };
+            let opened = Opened::Call { callee, arguments };
             let frames = with_frame(alloc, opened, minuses, calls, frames)?;
             Ok(Some((Phase::Start, frames)))
         }
@@ -101,8 +101,8 @@ pub(super) fn empty_call(alloc: Global, frames: Stack<Frame>) -> Result<Turn, Al
         ..
     } = frame;
     match opened {
-        Opened::Call { name, arguments } => {
-            let call = Node::Call { name, arguments };
+        Opened::Call { callee, arguments } => {
+            let call = Node::Call { callee, arguments };
             after_operand(alloc, minuses, frames, Some(call))
         }
         _ => Ok(None),

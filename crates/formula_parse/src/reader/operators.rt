@@ -1,5 +1,5 @@
 ghost use Rattle.std.specs.Prelude.{◌≡◌, IfOk};
-ghost use Rattle.formula_parse.specs.Reading.{after_turn, operator_turn, close_turn, comma_turn, closing, with_argument, tree_at_end, whole_tree};
+ghost use Rattle.formula_parse.specs.ReaderMachine.{after_turn, operator_turn, close_turn, comma_turn, closing, with_argument, tree_at_end, whole_tree};
 
 use super::super::nodes::Node;
 use super::super::operators::Operator;
@@ -73,11 +73,11 @@ fn closing(alloc: Global, opened: Opened, last: Node) -> Result<Option<Node>, Al
         Opened::Formula => Ok(None),
         Opened::Parentheses => Ok(Some(Node::Parentheses(Boxed::new(alloc, last)?))),
         Opened::Call {
-            name,
+            callee,
             mut arguments,
         } => {
             arguments.push(last)?;
-            Ok(Some(Node::Call { name, arguments }))
+            Ok(Some(Node::Call { callee, arguments }))
         }
     }
 }
@@ -105,11 +105,11 @@ fn with_argument(opened: Opened, last: Node) -> Result<Option<Opened>, AllocErro
 {
     match opened {
         Opened::Call {
-            name,
+            callee,
             mut arguments,
         } if arguments.len() + 1 < ARGUMENTS => {
             arguments.push(last)?;
-            Ok(Some(Opened::Call { name, arguments }))
+            Ok(Some(Opened::Call { callee, arguments }))
         }
         _ => Ok(None),
     }

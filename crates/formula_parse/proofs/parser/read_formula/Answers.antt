@@ -1,7 +1,7 @@
 use Rattle.std.proofs.Common.{◌≡◌, ◌==◌, true, false, Ok, arith, inr, refl, ap, sym, subst, ◌∙◌}
 use Rattle.std.proofs.lemmas.Result.{err_from_is_err_and}
 use Rattle.formula_parse.specs.Lexing.{passes_at}
-use Rattle.formula_parse.specs.Reading.{read_text}
+use Rattle.formula_parse.specs.ReaderMachine.{read_text}
 use Rattle.formula_parse.proofs.Causes.{read_ok}
 use Rattle.formula_parse.proofs.CodeBytes.{bytes_of_short}
 use Rattle.formula_parse.proofs.CodeLengths.{passes_within}

@@ -1,5 +1,5 @@
 use Rattle.std.proofs.Common.{◌≡◌, ◌≤◌, false, length}
-use Rattle.formula_parse.specs.Reading.{minuses_in, is_too_deep}
+use Rattle.formula_parse.specs.ReaderMachine.{minuses_in, is_too_deep}
 use Rattle.formula_parse.proofs.CodeLoop.{Reads}
 use Rattle.formula_parse.proofs.parser.read_formula.Given as goal
 

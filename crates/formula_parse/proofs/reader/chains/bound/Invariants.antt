@@ -1,5 +1,5 @@
 use Rattle.std.proofs.Common.{◌≡◌, length}
-use Rattle.formula_parse.specs.Reading.{operand_in_chains}
+use Rattle.formula_parse.specs.ReaderMachine.{operand_in_chains}
 use Rattle.formula_parse.proofs.reader.chains.bound.Given as goal
 
 abbrev pub invariant-loop-alloc : goal.invariant-loop-alloc

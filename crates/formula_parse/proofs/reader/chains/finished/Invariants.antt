@@ -1,5 +1,5 @@
 use Rattle.std.proofs.Common.{◌≡◌, length}
-use Rattle.formula_parse.specs.Reading.{tree_of_chains}
+use Rattle.formula_parse.specs.ReaderMachine.{tree_of_chains}
 use Rattle.formula_parse.proofs.reader.chains.finished.Given as goal
 
 abbrev pub invariant-loop-chain : goal.invariant-loop-chain

@@ -1,8 +1,5 @@
--- Reading a text from left to right, token by token.
-use Rattle.std.specs.Prelude.{ℕ, zero, suc, ◌+◌, ◌==◌, pos, int_lt, Bool, true, false, ◌||◌, if◌then◌else◌, nat_lt, List, [], ◌∷◌, ◌++◌, length, drop, take_while, Option, Some, None, option_map, Result, Ok, Err}
-use Rattle.std.specs.Str.{is_utf8, chars}
-use Rattle.std.specs.Result.{result_ok}
-use Rattle.cell_refs.specs.Area.{area_of, size_of}
+-- For the crate's own functions: reading a text from left to right, token by token.
+use Rattle.std.specs.Prelude.{ℕ, zero, suc, ◌+◌, ◌==◌, Bool, true, false, ◌||◌, if◌then◌else◌, nat_lt, List, [], ◌∷◌, ◌++◌, length, drop, take_while, Option, Some, None, option_map, Result, Ok, Err}
 use Rattle.formula_parse.specs.declared.faults.ParseFault.{ParseFault}
 use Rattle.formula_parse.specs.declared.faults.ParseFault.TheVariants as faults
 use Rattle.formula_parse.specs.declared.nodes.Node.{Node}
@@ -20,6 +17,7 @@ use Rattle.formula_parse.specs.declared.tokens.Token.{Token}
 use Rattle.formula_parse.specs.declared.tokens.Token.TheVariants as tokens
 use Rattle.formula_parse.specs.Grammar.{place_of}
 use Rattle.formula_parse.specs.Lexing.{token_at, begun_len}
+use Rattle.formula_parse.specs.Tokens.{is_wide_area, is_large_number}
 
 -- an operand behind signs of which so many are `-`
 abbrev pub signed_node : ℕ → Node → Node
@@ -74,16 +72,6 @@ operand_of (tokens.Reference r) = Some (nodes.Reference r)
 operand_of (tokens.Area a b) = Some (nodes.Area a b)
 operand_of other = None
 
--- whether a token is an area of over 65,536 cells
-abbrev pub is_wide_area : Token → Bool
-is_wide_area (tokens.Area a b) = nat_lt 65536 (size_of (area_of a b 1))
-is_wide_area other = false
-
--- whether a token is a number over 999,999,999,999,999
-abbrev pub is_large_number : Token → Bool
-is_large_number (tokens.Number n) = int_lt (pos 999999999999999) n
-is_large_number other = false
-
 -- how many calls are open
 abbrev pub calls_open : List Frame → ℕ
 calls_open [] = 0
@@ -112,7 +100,7 @@ abbrev pub operand_turn : ℕ → List Frame → Token → Option Turn
 operand_turn minuses frames (tokens.Operator operators.Add) = Some (phases.Signs minuses, frames)
 operand_turn minuses frames (tokens.Operator operators.Subtract) = Some (phases.Signs (suc minuses), frames)
 operand_turn minuses frames tokens.Open = Some (phases.Signs 0, with_frame opened.Parentheses minuses (calls_open frames) frames)
-operand_turn minuses frames (tokens.Call name) = Some (phases.Start, with_frame (opened.Call name []) minuses (suc (calls_open frames)) frames)
+operand_turn minuses frames (tokens.Call callee) = Some (phases.Start, with_frame (opened.Call callee []) minuses (suc (calls_open frames)) frames)
 operand_turn minuses frames other = after_operand minuses frames (operand_of other)
 
 -- the `)` of a call without arguments
@@ -121,7 +109,7 @@ empty_call [] = None
 empty_call (frame ∷ frames) = empty_call_of frame.opened frame.minuses frames
   where
     empty_call_of : Opened → ℕ → List Frame → Option Turn
-    empty_call_of (opened.Call name arguments) minuses frames = Some (phases.After (signed_node minuses (nodes.Call name arguments)), frames)
+    empty_call_of (opened.Call callee arguments) minuses frames = Some (phases.After (signed_node minuses (nodes.Call callee arguments)), frames)
     empty_call_of opened.Formula minuses frames = None
     empty_call_of opened.Parentheses minuses frames = None
 
@@ -139,7 +127,7 @@ operator_turn operand op (frame ∷ frames) = Some (phases.Signs 0, record frame
 abbrev pub closing : Opened → Node → Option Node
 closing opened.Formula last = None
 closing opened.Parentheses last = Some (nodes.Parentheses last)
-closing (opened.Call name arguments) last = Some (nodes.Call name (arguments ++ last ∷ []))
+closing (opened.Call callee arguments) last = Some (nodes.Call callee (arguments ++ last ∷ []))
 
 -- a `)` behind an operand
 abbrev pub close_turn : Node → List Frame → Option Turn
@@ -150,7 +138,7 @@ close_turn operand (frame ∷ frames) = after_operand frame.minuses frames (clos
 abbrev pub with_argument : Opened → Node → Option Opened
 with_argument opened.Formula last = None
 with_argument opened.Parentheses last = None
-with_argument (opened.Call name arguments) last = if nat_lt (length arguments) 254 then Some (opened.Call name (arguments ++ last ∷ [])) else None
+with_argument (opened.Call callee arguments) last = if nat_lt (length arguments) 254 then Some (opened.Call callee (arguments ++ last ∷ [])) else None
 
 -- a `,` behind an operand
 abbrev pub comma_turn : Node → List Frame → Option Turn
@@ -266,15 +254,3 @@ read_from (suc fuel) reader place text = answer_behind (read_from fuel) (read_ne
 abbrev pub read_text : List ℕ → Result Node ParseFault
 read_text [] = Err (faults.Syntax 0)
 read_text (b ∷ rest) = if b == 61 then read_from (suc (length rest)) first_reader 1 rest else Err (faults.Syntax 0)
-
--- whether a text has over 8,192 characters
-abbrev pub is_too_long : List ℕ → Bool
-is_too_long text = nat_lt 8192 (length (chars text))
-
--- the tree of the formula that a text is, or the first fault of the text
-unfoldable pub parse_result : List ℕ → Result Node ParseFault
-parse_result text = if is_too_long text then Err faults.TooLong else read_text text
-
--- the tree of the formula that a text is
-unfoldable pub formula_of : List ℕ → Option Node
-formula_of text = if is_utf8 text then result_ok (parse_result text) else None
