@@ -1,20 +1,16 @@
 -- The dependency table: the readers with the areas that each names, in cell order, each reader once.
 use Rattle.std.specs.Prelude.{Bool, List, [], is_some, unwrap_or}
-use Rattle.std.specs.List.{filter, flat_map, list_any}
+use Rattle.std.specs.List.{filter, flat_map}
 use Rattle.std.specs.List.Sorted.{IsStrictlySortedBy}
 use Rattle.std.specs.Map.{keys_of, lookup}
 use Rattle.cell_refs.specs.declared.areas.Area.{Area}
 use Rattle.cell_refs.specs.declared.grid.Cell.{Cell}
-use Rattle.cell_refs.specs.Area.{area_has, cells_of}
+use Rattle.cell_refs.specs.Area.{cells_of, lies_in}
 use Rattle.cell_refs.specs.Cell.{cell_cmp, same_cell}
 
 -- the readers stand in cell order, each once
 abbrev pub IsInOrder : List (Cell × List Area) → Type 0
 IsInOrder table = IsStrictlySortedBy cell_cmp (keys_of table)
-
--- whether a cell lies in one of the areas
-abbrev pub lies_in : List Area → Cell → Bool
-lies_in areas cell = list_any (λ area. area_has area cell) areas
 
 -- the areas that a reader names; none of a cell that is no reader
 abbrev pub areas_at : List (Cell × List Area) → Cell → List Area

@@ -1,5 +1,5 @@
 ghost use Rattle.std.specs.Prelude.{◌≡◌};
-ghost use Rattle.dep_table.specs.Table.{lies_in};
+ghost use Rattle.cell_refs.specs.Area.{lies_in};
 
 use cell_refs::{Area, Cell};
 use std::marker::Model;
