@@ -16,7 +16,7 @@ pub struct Marks {
 
 impl Model for Marks {
     ghost use Rattle.std.specs.Prelude.{List};
-    ghost use Rattle.std.specs.List.Sorted.{IsStrictlySortedBy};
+    ghost use Rattle.std.specs.BTreeSet.{IsOrdered};
     ghost use Rattle.cell_refs.specs.declared.grid.Cell.{Cell as OneCell};
     ghost use Rattle.cell_refs.specs.Cell.{cell_cmp};
 
@@ -24,16 +24,17 @@ impl Model for Marks {
 
     ghost view = { λ m. m.marks.keys };
 
-    ghost invariant = { λ m. IsStrictlySortedBy cell_cmp m.marks.keys };
+    ghost invariant = { λ m. IsOrdered cell_cmp m.marks };
 }
 
 impl Marks {
     ghost use Rattle.std.specs.Prelude.{[], ◌∷◌, ◌⊎◌, true, length, OnOk, OnErr};
     ghost use Rattle.std.specs.Set.{remove_key};
     ghost use Rattle.cell_refs.specs.declared.grid.Cell.{Cell as OneCell};
-    ghost use Rattle.cell_refs.specs.Cell.{same_cell};
+    ghost use Rattle.cell_refs.specs.Cell.{is_among, same_cell};
+    ghost use Rattle.cell_refs.specs.Reaching.{Reaches};
     ghost use Rattle.dep_table.specs.Table.{is_reader, precedents_at};
-    ghost use Rattle.stale_marks.specs.Marks.{IsClosed, IsClosedBut, Reaches, is_among};
+    ghost use Rattle.stale_marks.specs.Marks.{IsClosed, IsClosedBut};
 
     /// No marks.
     pub fn new(alloc: Global) -> Marks

@@ -1,0 +1,3 @@
+-- Laws of marks.
+mod SpreadLaws
+mod WalkLaws
