@@ -3,6 +3,8 @@
 
 mod area_lists;
 mod tables;
+#[cfg(test)]
+mod tests;
 
 pub use cell_refs::Memory;
 pub use tables::DepTable;

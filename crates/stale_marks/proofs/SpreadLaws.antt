@@ -8,7 +8,8 @@ use Rattle.cell_refs.specs.declared.areas.Area.{Area}
 use Rattle.cell_refs.specs.declared.grid.Cell.{Cell}
 use Rattle.cell_refs.specs.Cell.{is_among, same_cell}
 use Rattle.cell_refs.proofs.PublicLaws.{same_cell_is, same_cells}
-use Rattle.stale_marks.specs.Spreading.{AreDependents, HasSpread, HasSpreadInPart, IsDependent, KeepsMarks}
+use Rattle.stale_marks.specs.Spreading.{AreDependents, HasSpread, HasSpreadInPart}
+use Rattle.stale_marks.specs.Marks.{IsDependent, KeepsMarks}
 
 -- new has this cell beside what old has
 abbrev pub Gains : List Cell → List Cell → Cell → Type 0

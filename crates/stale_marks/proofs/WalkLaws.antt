@@ -19,7 +19,8 @@ use Rattle.cell_refs.proofs.PublicLaws.{cells_total, exact_cells, found_among, s
 use Rattle.dep_table.specs.Table.{IsInOrder, areas_at, is_reader, precedents_at, readers_of}
 use Rattle.dep_table.proofs.PublicLaws.{precedents-lies_in, readers_of-among, reads-reader}
 use Rattle.stale_marks.specs.Marks.{IsClosed, IsClosedBut}
-use Rattle.stale_marks.specs.Spreading.{AreDependents, AreWalked, HasBegun, HasSpread, HasSpreadInPart, IsDependent, KeepsMarks}
+use Rattle.stale_marks.specs.Spreading.{AreDependents, AreWalked, HasBegun, HasSpread, HasSpreadInPart}
+use Rattle.stale_marks.specs.Marks.{IsDependent, KeepsMarks}
 
 -- the one cell of a list
 pub only-cell : (cell q : Cell) → is_among (cell ∷ []) q ≡ true → q ≡ cell
@@ -93,8 +94,8 @@ pub taken-back : (old middle new : BTreeSet Cell) (added : List Cell) → IsOrde
     → new.keys ≡ old.keys
 taken-back old middle new added ordered ordered' part left kept =
     btree_set_from_contains cells_total new old ordered' ordered (λ q. both_ways (is_among new.keys q) (is_among old.keys q)
-      (λ among. let l = left q among in first_of (is_among old.keys q) (is_among added q) (part.made q l.0) l.1)
-      (λ among. kept q (part.kept q among) (not_both (is_among old.keys q) (is_among added q) among (part.fresh q)))) exact_cells
+    (λ among. let l = left q among in first_of (is_among old.keys q) (is_among added q) (part.made q l.0) l.1)
+    (λ among. kept q (part.kept q among) (not_both (is_among old.keys q) (is_among added q) among (part.fresh q)))) exact_cells
 
 -- ---- the readers of a cell
 
@@ -203,14 +204,14 @@ reached-marked table origin marks closed itself walked (suc n) q reader h =
     ⊎_elim
     (λ here. at_origin (only-cell origin q here))
     (λ later.
-      let found = found_among (reaches (precedents_at table) (origin ∷ []) n) (precedents_at table q) later in
-      let reads : lies_in (areas_at table q) found.0 ≡ true = sym (precedents-lies_in table q found.0) ∙ found.1 in
-      elim (is_reader table found.0) as (λ b. is_reader table found.0 ≡ b → is_among marks q ≡ true) [
-        | true ↦ λ e. ⊎_elim at_origin (λ marked. marked) (closed found.0 q (reached-marked table origin marks closed itself walked n found.0 e found.2) reads)
-        | false ↦ λ e.
-            let is : found.0 ≡ origin = stranger_reaches table origin n found.0 e found.2 in
-            walked origin q (the-cell origin) (subst (λ c. lies_in (areas_at table q) c ≡ true) is reads)
-      ] refl)
+    let found = found_among (reaches (precedents_at table) (origin ∷ []) n) (precedents_at table q) later in
+    let reads : lies_in (areas_at table q) found.0 ≡ true = sym (precedents-lies_in table q found.0) ∙ found.1 in
+    elim (is_reader table found.0) as (λ b. is_reader table found.0 ≡ b → is_among marks q ≡ true) [
+      | true ↦ λ e. ⊎_elim at_origin (λ marked. marked) (closed found.0 q (reached-marked table origin marks closed itself walked n found.0 e found.2) reads)
+      | false ↦ λ e.
+          let is : found.0 ≡ origin = stranger_reaches table origin n found.0 e found.2 in
+          walked origin q (the-cell origin) (subst (λ c. lies_in (areas_at table q) c ≡ true) is reads)
+    ] refl)
     (or_cases (is_among (origin ∷ []) q) _ h)
   where
     at_origin : q ≡ origin → is_among marks q ≡ true
@@ -237,9 +238,9 @@ module _ (table : List (Cell × List Area)) (origin : Cell) (old marks added : L
   end-closed closed cell reader marked reads =
       ⊎_elim
       (λ before. ⊎_elim
-        (λ is. subst (λ e. is_among marks e ≡ true) (sym is) (added_marked origin (begun.itself (subst (λ e. is_reader table e ≡ true) is (reads-reader table reader cell reads)))))
-        (λ kept. old_marked reader kept)
-        (closed cell reader before reads))
+      (λ is. subst (λ e. is_among marks e ≡ true) (sym is) (added_marked origin (begun.itself (subst (λ e. is_reader table e ≡ true) is (reads-reader table reader cell reads)))))
+      (λ kept. old_marked reader kept)
+      (closed cell reader before reads))
       (λ new. walked cell reader new reads)
       (or_cases (is_among old cell) (is_among added cell) (sym (spread.made cell) ∙ marked))
 

@@ -5,13 +5,8 @@ use Rattle.cell_refs.specs.declared.areas.Area.{Area}
 use Rattle.cell_refs.specs.declared.grid.Cell.{Cell}
 use Rattle.cell_refs.specs.Area.{lies_in}
 use Rattle.cell_refs.specs.Cell.{is_among, same_cell}
-use Rattle.cell_refs.specs.Reaching.{Reaches}
-use Rattle.dep_table.specs.Table.{areas_at, is_reader, precedents_at}
-
--- a reader from which the origin is reached
-pub record IsDependent (table : List (Cell × List Area)) (origin cell : Cell) : Type 0 where
-  pub reader : is_reader table cell ≡ true
-  pub reaches : Reaches (precedents_at table) (origin ∷ []) cell
+use Rattle.dep_table.specs.Table.{areas_at, is_reader}
+use Rattle.stale_marks.specs.Marks.{IsDependent}
 
 -- each of these cells is a reader from which the origin is reached
 abbrev pub AreDependents : List (Cell × List Area) → Cell → List Cell → Type 0
@@ -39,7 +34,3 @@ AreWalked table marks cells = (cell reader : Cell) → is_among cells cell ≡ t
 pub record HasBegun (table : List (Cell × List Area)) (origin : Cell) (marks added : List Cell) : Type 0 where
   pub itself : is_reader table origin ≡ true → is_among added origin ≡ true
   pub readers : is_reader table origin ≡ false → AreWalked table marks (origin ∷ [])
-
--- what was marked stays marked
-abbrev pub KeepsMarks : List Cell → List Cell → Type 0
-KeepsMarks old new = (cell : Cell) → is_among old cell ≡ true → is_among new cell ≡ true

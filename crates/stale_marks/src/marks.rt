@@ -28,13 +28,11 @@ impl Model for Marks {
 }
 
 impl Marks {
-    ghost use Rattle.std.specs.Prelude.{[], ◌∷◌, ◌⊎◌, true, length, OnOk, OnErr};
+    ghost use Rattle.std.specs.Prelude.{[], ◌⊎◌, true, length, OnOk, OnErr};
     ghost use Rattle.std.specs.Set.{remove_key};
     ghost use Rattle.cell_refs.specs.declared.grid.Cell.{Cell as OneCell};
     ghost use Rattle.cell_refs.specs.Cell.{is_among, same_cell};
-    ghost use Rattle.cell_refs.specs.Reaching.{Reaches};
-    ghost use Rattle.dep_table.specs.Table.{is_reader, precedents_at};
-    ghost use Rattle.stale_marks.specs.Marks.{IsClosed, IsClosedBut};
+    ghost use Rattle.stale_marks.specs.Marks.{IsClosed, IsClosedBut, IsDependent, KeepsMarks, LosesMark};
 
     /// No marks.
     pub fn new(alloc: Global) -> Marks
@@ -49,15 +47,13 @@ impl Marks {
     /// Marks each reader of the table from which the cell is reached, the cell itself if it is a reader. A cell that
     /// is marked already isn't walked on from. A refusal changes nothing.
     pub fn mark(&mut self, table: &DepTable, cell: Cell) -> Result<(), Memory>
-        ensures kept { (q : OneCell) → is_among self.old q ≡ true → is_among self.new q ≡ true }
-        ensures only { (q : OneCell) → is_among self.new q ≡ true → (is_among self.old q ≡ true)
-            ⊎ ((is_reader table.now q ≡ true)
-            × Reaches (precedents_at table.now) (cell ∷ []) q) }
+        ensures kept { KeepsMarks self.old self.new }
+        ensures only { (q : OneCell) → is_among self.new q ≡ true
+            → (is_among self.old q ≡ true) ⊎ IsDependent table.now cell q }
 
         // Where the readers of marked cells are marked, all from which the cell is reached are marked now.
         ensures all { IsClosedBut cell table.now self.old → OnOk result ((q : OneCell)
-            → is_reader table.now q ≡ true → Reaches (precedents_at table.now) (cell ∷ []) q
-            → is_among self.new q ≡ true) }
+            → IsDependent table.now cell q → is_among self.new q ≡ true) }
         ensures closed { IsClosedBut cell table.now self.old → OnOk result
             (IsClosed table.now self.new) }
         ensures refused { OnErr result (self.new ≡ self.old) }
@@ -67,7 +63,8 @@ impl Marks {
 
     /// Takes the mark of a cell away, where it has one. It takes no memory.
     pub fn unmark(&mut self, cell: Cell)
-        ensures { self.new ≡ remove_key (same_cell cell) self.old }
+        ensures removed { self.new ≡ remove_key (same_cell cell) self.old }
+        ensures marks { LosesMark self.old self.new cell }
     {
         let _ = self.marks.remove(&cell);
     }

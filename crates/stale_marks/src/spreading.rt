@@ -6,7 +6,8 @@ ghost use Rattle.cell_refs.specs.Cell.{cell_cmp, is_among};
 ghost use Rattle.cell_refs.specs.Reaching.{Reaches};
 ghost use Rattle.dep_table.specs.Table.{IsInOrder, is_reader, precedents_at};
 ghost use Rattle.stale_marks.specs.Marks.{IsClosed, IsClosedBut};
-ghost use Rattle.stale_marks.specs.Spreading.{AreDependents, AreWalked, HasBegun, HasSpread, HasSpreadInPart, IsDependent, KeepsMarks};
+ghost use Rattle.stale_marks.specs.Spreading.{AreDependents, AreWalked, HasBegun, HasSpread, HasSpreadInPart};
+ghost use Rattle.stale_marks.specs.Marks.{IsDependent, KeepsMarks};
 
 use cell_refs::{Cell, Memory};
 use dep_table::DepTable;

@@ -3,7 +3,8 @@ use Rattle.std.specs.BTreeSet.{IsOrdered}
 use Rattle.cell_refs.specs.declared.areas.Area.{Area}
 use Rattle.cell_refs.specs.declared.grid.Cell.{Cell}
 use Rattle.cell_refs.specs.Cell.{cell_cmp, is_among}
-use Rattle.stale_marks.specs.Spreading.{AreDependents, HasSpread, KeepsMarks}
+use Rattle.stale_marks.specs.Spreading.{AreDependents, HasSpread}
+use Rattle.stale_marks.specs.Marks.{KeepsMarks}
 use Rattle.stale_marks.proofs.spreading.add_all.Given as goal
 
 -- the cells so far are marked, and nothing else was
