@@ -1,4 +1,5 @@
 -- Laws of the order of cells, and of what is written and read.
+mod AmongCells
 mod BothWays
 mod Capitals
 mod CellOrder

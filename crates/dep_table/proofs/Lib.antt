@@ -1,0 +1,3 @@
+-- Laws of the dependency table.
+mod Readers
+pub mod PublicLaws

@@ -1,0 +1,10 @@
+//! The dependency table: which areas each formula cell names, and which formula cells name a cell.
+#![tactic(auto)]
+
+mod area_lists;
+mod tables;
+#[cfg(test)]
+mod tests;
+
+pub use cell_refs::Memory;
+pub use tables::DepTable;

@@ -1,0 +1,4 @@
+-- Laws of marks.
+mod EditLaws
+mod SpreadLaws
+mod WalkLaws
