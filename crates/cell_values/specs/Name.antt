@@ -11,4 +11,5 @@ is_name_byte c = is_ascii_alphanumeric c || (c == 46 || c == 95)
 -- a letter, then letters, digits, `.` and `_`, at most 255 bytes in all
 abbrev pub is_name : List ℕ → Bool
 is_name [] = false
-is_name (c ∷ cs) = is_ascii_alphabetic c && (list_all is_name_byte cs && nat_le (length (c ∷ cs)) LONGEST_NAME)
+is_name (c ∷ cs) =
+    is_ascii_alphabetic c && (list_all is_name_byte cs && nat_le (length (c ∷ cs)) LONGEST_NAME)

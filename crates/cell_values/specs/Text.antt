@@ -7,7 +7,8 @@ use Rattle.cell_values.specs.declared.limits.TheConstants.{LONGEST_TEXT}
 
 -- the bytes of a text: UTF-8, at most 32,767 characters, no character below U+0020 and no U+007F
 abbrev pub is_text : List ℕ → Bool
-is_text t = is_utf8 t && (nat_le (length (chars t)) LONGEST_TEXT && not (list_any is_ascii_control t))
+is_text t =
+    is_utf8 t && (nat_le (length (chars t)) LONGEST_TEXT && not (list_any is_ascii_control t))
 
 -- bytes of at most 32,767 characters
 abbrev pub if_short : List ℕ → Option (List ℕ)

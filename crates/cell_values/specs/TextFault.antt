@@ -11,4 +11,5 @@ use Rattle.cell_values.specs.declared.texts.TextFault.TheVariants.{Memory, TooLo
 abbrev pub IsFaultOf : TextFault → List ℕ → Type 0
 IsFaultOf Memory s = Unit {0}
 IsFaultOf TooLong s = LONGEST_TEXT < length (chars s)
-IsFaultOf (Control place) s = (length (chars s) ≤ LONGEST_TEXT) × (position is_ascii_control s ≡ Some place)
+IsFaultOf (Control place) s =
+    (length (chars s) ≤ LONGEST_TEXT) × (position is_ascii_control s ≡ Some place)

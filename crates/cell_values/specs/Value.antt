@@ -51,7 +51,8 @@ mul_of a b = on_numbers (λ m n. within_magnitude (m *ℤ n)) (number_of a) (num
 abbrev pub quotient : ℤ → ℤ → Value
 quotient m n =
     if int_eq n (pos 0) then values.Error errors.Div0
-    else (if int_eq (int_rem m n) (pos 0) then within_magnitude (int_div m n) else values.Error errors.Num)
+    else (if int_eq (int_rem m n) (pos 0) then within_magnitude (int_div m n)
+    else values.Error errors.Num)
 
 -- the quotient of two values
 abbrev pub div_of : Value → Value → Value

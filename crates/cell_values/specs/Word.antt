@@ -54,11 +54,15 @@ number_word (c ∷ ds) =
 
 -- `TRUE` or `FALSE`
 abbrev pub bool_word : List ℕ → Option Bool
-bool_word w = if bytes_eq w (codes "TRUE") then Some true else (if bytes_eq w (codes "FALSE") then Some false else None)
+bool_word w =
+    if bytes_eq w (codes "TRUE") then Some true
+    else (if bytes_eq w (codes "FALSE") then Some false else None)
 
 -- one of the seven error words
 abbrev pub kind_of_word : List ℕ → Option ErrorKind
-kind_of_word w = find (λ e. bytes_eq w (error_word e)) (errors.Null ∷ errors.Div0 ∷ errors.Value ∷ errors.Ref ∷ errors.Name ∷ errors.Num ∷ errors.Na ∷ [])
+kind_of_word w =
+    find (λ e. bytes_eq w (error_word e))
+    (errors.Null ∷ errors.Div0 ∷ errors.Value ∷ errors.Ref ∷ errors.Name ∷ errors.Num ∷ errors.Na ∷ [])
 
 -- the bytes up to the closing `"`, which ends the word, with each doubled `"` made one
 abbrev pub before_closing_quote : List ℕ → Option (List ℕ)
@@ -75,7 +79,8 @@ text_of_bytes t = if is_text t then Some t else None
 -- `"`, the bytes of a text with each `"` doubled, `"`
 abbrev pub text_word : List ℕ → Option (List ℕ)
 text_word [] = None
-text_word (c ∷ cs) = if c == 34 then option_and_then text_of_bytes (before_closing_quote cs) else None
+text_word (c ∷ cs) =
+    if c == 34 then option_and_then text_of_bytes (before_closing_quote cs) else None
 
 -- what a value word says; None where the bytes are no value word
 abbrev pub value_of_word : List ℕ → Option Value

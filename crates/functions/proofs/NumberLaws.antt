@@ -1,5 +1,6 @@
 -- Which numbers are within the magnitude.
 use Rattle.std.proofs.Common.{◌≡◌, ℕ, ◌<◌, ◌≤◌, Bool, true, false, ◌&&◌, ℤ, pos, negsuc, unsigned_abs, ◌⊎◌, inl, inr, refl, sym, ap, ◌∙◌, cond, arith, leb}
+use Rattle.std.proofs.lemmas.Bool.{le-leb, lt-leb}
 use Rattle.std.proofs.lemmas.Bool.Decides.{nat_tests}
 use Rattle.cell_values.specs.declared.errors.ErrorKind.TheVariants as errors
 use Rattle.cell_values.specs.declared.values.Value.TheVariants as values
@@ -11,21 +12,15 @@ pub choice : (b : Bool) → (b ≡ true) ⊎ (b ≡ false)
 choice true = inl refl
 choice false = inr refl
 
-leb_is_false : (m n : ℕ) → n < m → leb m n ≡ false
-leb_is_false m n h = grind (arith, nat_tests)
-
-leb_is_true : (m n : ℕ) → m ≤ n → leb m n ≡ true
-leb_is_true m n h = grind (arith, nat_tests)
-
 -- a number of greater magnitude is outside
 pub outside : (n : ℤ) → 999999999999999 < unsigned_abs n → is_in_magnitude n ≡ false
-outside (pos n) far = leb_is_false n 999999999999999 far
-outside (negsuc n) far = ap (λ b. b && true) (leb_is_false n 999999999999998 (omega arith))
+outside (pos n) far = lt-leb n 999999999999999 far
+outside (negsuc n) far = ap (λ b. b && true) (lt-leb n 999999999999998 (omega arith))
 
 -- a number of lesser magnitude is inside
 pub inside : (n : ℤ) → unsigned_abs n ≤ 999999999999999 → is_in_magnitude n ≡ true
-inside (pos n) near = leb_is_true n 999999999999999 near
-inside (negsuc n) near = ap (λ b. b && true) (leb_is_true n 999999999999998 (omega arith))
+inside (pos n) near = le-leb n 999999999999999 near
+inside (negsuc n) near = ap (λ b. b && true) (le-leb n 999999999999998 (omega arith))
 
 -- a number that is outside has a greater magnitude
 pub far_from : (n : ℤ) → is_in_magnitude n ≡ false → 999999999999999 < unsigned_abs n

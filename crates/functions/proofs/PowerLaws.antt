@@ -1,6 +1,6 @@
 -- Powers: those that leave the magnitude, and those of -1, 0 and 1.
 use Rattle.std.proofs.Common.{◌≡◌, ℕ, zero, suc, ◌+◌, ◌<◌, ◌%◌, true, false, cond, ℤ, pos, negsuc, neg_ℤ, ◌*ℤ◌, unsigned_abs, refl, sym, ap, ◌∙◌, subst, arith, eqb}
-use Rattle.std.proofs.Math.IntN.{*ℤ-one, *ℤ-negsuc, *ℤ_comm, zero-*ℤ}
+use Rattle.std.proofs.Math.IntN.{*ℤ-one, *ℤ-negsuc, *ℤ_comm, zero-*ℤ, neg_ℤ-neg_ℤ}
 use Rattle.std.proofs.Math.Nat.{le-mul_of_pos_right, mul_comm}
 use Rattle.std.proofs.lemmas.Int.{unsigned_abs-mul}
 use Rattle.cell_values.specs.declared.errors.ErrorKind.TheVariants as errors
@@ -38,11 +38,6 @@ unfolding lib.IntN.one
 power_of_one zero = refl
 power_of_one (suc k) = *ℤ_comm (pos 1) (exact_power (pos 1) k) ∙ *ℤ-one (exact_power (pos 1) k) ∙ power_of_one k
 
-neg_neg : (n : ℤ) → neg_ℤ (neg_ℤ n) ≡ n
-neg_neg (pos zero) = refl
-neg_neg (pos (suc n)) = refl
-neg_neg (negsuc n) = refl
-
 minus_times : (n : ℤ) → negsuc 0 *ℤ n ≡ neg_ℤ n
 unfolding lib.IntN.one
 minus_times n = *ℤ_comm (negsuc 0) n ∙ *ℤ-negsuc n 0 ∙ ap neg_ℤ (*ℤ-one n)
@@ -55,5 +50,5 @@ pub power_of_minus_one : (k : ℕ) → exact_power (negsuc 0) k ≡ cond (eqb (k
 power_of_minus_one zero = refl
 power_of_minus_one (suc zero) = refl
 power_of_minus_one (suc (suc k)) =
-    minus_times (negsuc 0 *ℤ exact_power (negsuc 0) k) ∙ ap neg_ℤ (minus_times (exact_power (negsuc 0) k)) ∙ neg_neg (exact_power (negsuc 0) k)
+    minus_times (negsuc 0 *ℤ exact_power (negsuc 0) k) ∙ ap neg_ℤ (minus_times (exact_power (negsuc 0) k)) ∙ neg_ℤ-neg_ℤ (exact_power (negsuc 0) k)
     ∙ power_of_minus_one k ∙ ap (λ m. cond (eqb m 0) (pos 1) (negsuc 0)) (sym (two_more k))

@@ -7,7 +7,7 @@ use Rattle.std.specs.Str.{IsUtf8, chars}
 use lib.Utf8.{encode, encodes}
 use Rattle.cell_values.specs.Digits.{after_spaces}
 use Rattle.cell_values.specs.Text.{is_text}
-use Rattle.functions.proofs.PlainFacts.{Plain, parts_of_text, text_of_plain, plain_nil, plain_head, plain_cons}
+use Rattle.functions.proofs.PlainFacts.{Plain, plain_parts, text_of_plain, plain_nil, plain_head, plain_cons}
 use Rattle.functions.specs.TextSteps.{character_behind_space}
 use Rattle.functions.specs.Texts.{is_empty, before_spaces, with_single_spaces, single_spacing_of}
 
@@ -160,13 +160,13 @@ tame_single n (c ∷ d ∷ cs) t =
 
 pub tidied_plain : (t : List ℕ) → is_text t ≡ true → Plain (single_spacing_of (chars t))
 tidied_plain t e =
-    let p = parts_of_text t e in
+    let p = plain_parts t e in
     (tame_single 32767 (before_spaces (after_spaces (chars t))) (tame_before 32767 (after_spaces (chars t)) (tame_after 32767 (chars t) (record { plain = p.plain; few = p.few })))).plain
 
 -- a tidied text is a text
 pub tidied_is_text : (t : List ℕ) → is_text t ≡ true → is_text (encodes (single_spacing_of (chars t))) ≡ true
 tidied_is_text t e =
-    let p = parts_of_text t e in
+    let p = plain_parts t e in
     let tame = tame_single 32767 (before_spaces (after_spaces (chars t))) (tame_before 32767 (after_spaces (chars t)) (tame_after 32767 (chars t) (record { plain = p.plain; few = p.few }))) in
     text_of_plain (single_spacing_of (chars t)) tame.plain tame.few
 

@@ -52,7 +52,14 @@ word_of functions.Value = codes "VALUE"
 -- all functions
 abbrev pub all_functions : List Function
 all_functions =
-    functions.True ∷ functions.False ∷ functions.If ∷ functions.IfError ∷ functions.IfNa ∷ functions.And ∷ functions.Or ∷ functions.Not ∷ functions.IsNumber ∷ functions.IsText ∷ functions.IsLogical ∷ functions.IsError ∷ functions.IsNa ∷ functions.IsBlank ∷ functions.Na ∷ functions.Sum ∷ functions.Product ∷ functions.Min ∷ functions.Max ∷ functions.Count ∷ functions.CountA ∷ functions.Abs ∷ functions.Sign ∷ functions.Mod ∷ functions.Quotient ∷ functions.Power ∷ functions.Choose ∷ functions.Index ∷ functions.Len ∷ functions.Left ∷ functions.Right ∷ functions.Mid ∷ functions.Upper ∷ functions.Lower ∷ functions.Concatenate ∷ functions.Exact ∷ functions.Find ∷ functions.Rept ∷ functions.Trim ∷ functions.Value ∷ []
+    functions.True ∷ functions.False ∷ functions.If ∷ functions.IfError ∷ functions.IfNa ∷
+    functions.And ∷ functions.Or ∷ functions.Not ∷ functions.IsNumber ∷ functions.IsText ∷
+    functions.IsLogical ∷ functions.IsError ∷ functions.IsNa ∷ functions.IsBlank ∷ functions.Na ∷
+    functions.Sum ∷ functions.Product ∷ functions.Min ∷ functions.Max ∷ functions.Count ∷
+    functions.CountA ∷ functions.Abs ∷ functions.Sign ∷ functions.Mod ∷ functions.Quotient ∷
+    functions.Power ∷ functions.Choose ∷ functions.Index ∷ functions.Len ∷ functions.Left ∷
+    functions.Right ∷ functions.Mid ∷ functions.Upper ∷ functions.Lower ∷ functions.Concatenate ∷
+    functions.Exact ∷ functions.Find ∷ functions.Rept ∷ functions.Trim ∷ functions.Value ∷ []
 
 -- the function of a name
 abbrev pub function_named : List ℕ → Option Function

@@ -36,7 +36,8 @@ all_ok (Err e ∷ rs) = Err e
 -- an argument in form: an area has at least one column, and at least one value and no more than the limit, in whole rows
 abbrev pub IsInput : Arg → Type 0
 IsInput (Direct v) = Unit {0}
-IsInput (Cells columns vs) = (0 < columns) × (0 < length vs) × (length vs ≤ MOST_VALUES) × (length vs % columns ≡ 0)
+IsInput (Cells columns vs) =
+    (0 < columns) × (0 < length vs) × (length vs ≤ MOST_VALUES) × (length vs % columns ≡ 0)
 
 -- the arguments of a call in form
 pub record AreInputs (args : List Arg) : Type 0 where
