@@ -6,24 +6,26 @@ use Rattle.workbook.specs.State.{first_state}
 use Rattle.rtdhost.specs.declared.engine.Engine.{Engine}
 use Rattle.rtdhost.specs.declared.program.Status.{Status}
 use Rattle.rtdhost.specs.declared.program.Status.TheVariants as statuses
-use Rattle.rtdhost.specs.declared.session.Halt.{Halt}
-use Rattle.rtdhost.specs.declared.session.Halt.TheVariants as halts
+use Rattle.host_io.specs.declared.run_faults.RunFault.{RunFault}
+use Rattle.host_io.specs.declared.run_faults.RunFault.TheVariants as run_faults
 use Rattle.rtdhost.specs.Engine.{Stands}
-use Rattle.rtdhost.specs.Lines.{lines_of, whole_lines}
-use Rattle.rtdhost.specs.Output.{is_run, output_of, replies_from, usage_line}
-use Rattle.rtdhost.specs.Program.{HasEnded, IsFaultCounted, status_of}
-use Rattle.rtdhost.specs.Reading.{Reading}
-use Rattle.rtdhost.specs.Session.{HasAnswered, HasStopped}
-use Rattle.rtdhost.specs.Sink.{Appends, AppendsPrefix, Rose}
-use Rattle.rtdhost.proofs.GivenLaws.{HasGiven-start}
-use Rattle.rtdhost.proofs.SinkLaws.{Appends-kept, Appends-none, AppendsPrefix-all, AppendsPrefix-kept}
+use Rattle.host_io.specs.Lines.{lines_of, whole_lines}
+use Rattle.rtdhost.specs.Output.{output_of, replies_from}
+use Rattle.rtdhost.specs.Words.{is_run, usage_line}
+use Rattle.rtdhost.specs.Endings.{HasEnded, IsFaultCounted, status_of}
+use Rattle.host_io.specs.LineReader.{LineReader}
+use Rattle.rtdhost.specs.Session.{HasAnswered, HasStopped, IsCaused}
+use Rattle.host_io.specs.Count.{Rose}
+use Rattle.host_io.specs.Sink.{Appends, AppendsPrefix}
+use Rattle.host_io.proofs.PublicLaws.{HasGiven-start}
+use Rattle.host_io.proofs.PublicLaws.{Appends-kept, Appends-none, AppendsPrefix-all, AppendsPrefix-kept}
 
 keeps_itself : (bytes : Option (List ℕ)) → Keeps bytes bytes
 keeps_itself None = tt
 keeps_itself (Some bytes) = refl
 
 -- a session that has read nothing has answered all of nothing
-pub started : (input : List ℕ) (engine : Engine) (reading : Reading) (left written : Option (List ℕ)) → reading ≡ record { pending = []; taken = 0; ended = false; fault = None } → Stands engine first_state → left ≡ Some input → HasAnswered input written engine reading left written
+pub started : (input : List ℕ) (engine : Engine) (reading : LineReader) (left written : Option (List ℕ)) → reading ≡ record { pending = []; taken = 0; ended = false; fault = None } → Stands engine first_state → left ≡ Some input → HasAnswered input written engine reading left written
 started input engine reading left written new stands told =
     subst (λ r. HasAnswered input written engine r left written) (sym new)
     (record {
@@ -42,16 +44,16 @@ run_output words input run = ap (λ b. cond b (replies_from first_state (lines_o
 usage_output : (words : List (List ℕ)) (input : List ℕ) → is_run words ≡ false → output_of words input ≡ usage_line
 usage_output words input other = ap (λ b. cond b (replies_from first_state (lines_of input)) usage_line) other
 
-ended_by : (halt : Halt) (words : List (List ℕ)) (all : List ℕ) (before left written : Option (List ℕ)) → is_run words ≡ true → HasStopped halt all before left written → HasEnded (status_of halt) words all before left written
-ended_by halts.Read words all before left written run stopped = (run, stopped)
-ended_by halts.Write words all before left written run stopped = subst (λ bs. AppendsPrefix before bs written) (sym (run_output words all run)) stopped.0
-ended_by halts.Limit words all before left written run stopped = (run, stopped)
-ended_by halts.Memory words all before left written run stopped = (run, stopped)
+ended_by : (stop : RunFault) (words : List (List ℕ)) (all : List ℕ) (before left written : Option (List ℕ)) → is_run words ≡ true → HasStopped stop all before left written → HasEnded (status_of stop) words all before left written
+ended_by run_faults.Read words all before left written run stopped = (run, stopped)
+ended_by run_faults.Write words all before left written run stopped = subst (λ bs. AppendsPrefix before bs written) (sym (run_output words all run)) stopped.0
+ended_by run_faults.Limit words all before left written run stopped = (run, stopped)
+ended_by run_faults.Memory words all before left written run stopped = (run, stopped)
 
 -- a session that stopped early
-pub stopped_ended : (halt : Halt) (status : Status) (words : List (List ℕ)) (all : List ℕ) (before left written : Option (List ℕ)) → status ≡ status_of halt → is_run words ≡ true → HasStopped halt all before left written → HasEnded status words all before left written
-stopped_ended halt status words all before left written is run stopped =
-    subst (λ s. HasEnded s words all before left written) (sym is) (ended_by halt words all before left written run stopped)
+pub stopped_ended : (stop : RunFault) (status : Status) (words : List (List ℕ)) (all : List ℕ) (before left written : Option (List ℕ)) → status ≡ status_of stop → is_run words ≡ true → HasStopped stop all before left written → HasEnded status words all before left written
+stopped_ended stop status words all before left written is run stopped =
+    subst (λ s. HasEnded s words all before left written) (sym is) (ended_by stop words all before left written run stopped)
 
 -- with this status
 as_status : (status other : Status) (words : List (List ℕ)) (all : List ℕ) (before left written : Option (List ℕ)) → HasEnded status words all before left written → status ≡ other → HasEnded other words all before left written
@@ -80,22 +82,22 @@ pub limit_answered : (status : Status) (words : List (List ℕ)) (all : List ℕ
 limit_answered status words all before left written written' ended is kept =
     Appends-kept before written written' _ (as_status status statuses.InputLimit words all before left written ended is).1.1.1 kept
 
--- a front of the output, with every status
-front_by : (words : List (List ℕ)) (all : List ℕ) (before written : Option (List ℕ)) → is_run words ≡ true → AppendsPrefix before (replies_from first_state (lines_of all)) written → AppendsPrefix before (output_of words all) written
-front_by words all before written run front = subst (λ bs. AppendsPrefix before bs written) (sym (run_output words all run)) front
+-- a prefix of the output, with every status
+prefix_by : (words : List (List ℕ)) (all : List ℕ) (before written : Option (List ℕ)) → is_run words ≡ true → AppendsPrefix before (replies_from first_state (lines_of all)) written → AppendsPrefix before (output_of words all) written
+prefix_by words all before written run prefix = subst (λ bs. AppendsPrefix before bs written) (sym (run_output words all run)) prefix
 
-ended_front : (status : Status) (words : List (List ℕ)) (all : List ℕ) (before left written : Option (List ℕ)) → HasEnded status words all before left written → AppendsPrefix before (output_of words all) written
-ended_front statuses.Ok words all before left written ended = front_by words all before written ended.0 (AppendsPrefix-all before written _ ended.1.wrote)
-ended_front statuses.Usage words all before left written ended =
+ended_prefix : (status : Status) (words : List (List ℕ)) (all : List ℕ) (before left written : Option (List ℕ)) → HasEnded status words all before left written → AppendsPrefix before (output_of words all) written
+ended_prefix statuses.Ok words all before left written ended = prefix_by words all before written ended.0 (AppendsPrefix-all before written _ ended.1.wrote)
+ended_prefix statuses.Usage words all before left written ended =
     subst (λ bs. AppendsPrefix before bs written) (sym (usage_output words all ended.0)) (AppendsPrefix-all before written usage_line ended.1)
-ended_front statuses.ReadFault words all before left written ended = front_by words all before written ended.0 ended.1.0
-ended_front statuses.WriteFault words all before left written ended = ended
-ended_front statuses.Memory words all before left written ended = front_by words all before written ended.0 ended.1.0
-ended_front statuses.InputLimit words all before left written ended = front_by words all before written ended.0 ended.1.0
+ended_prefix statuses.ReadFault words all before left written ended = prefix_by words all before written ended.0 ended.1.0
+ended_prefix statuses.WriteFault words all before left written ended = ended
+ended_prefix statuses.Memory words all before left written ended = prefix_by words all before written ended.0 ended.1.0
+ended_prefix statuses.InputLimit words all before left written ended = prefix_by words all before written ended.0 ended.1.0
 
-pub front_wrote : (status : Status) (words : List (List ℕ)) (all : List ℕ) (before left written written' : Option (List ℕ)) → HasEnded status words all before left written → Keeps written written' → AppendsPrefix before (output_of words all) written'
-front_wrote status words all before left written written' ended kept =
-    AppendsPrefix-kept before written written' (output_of words all) (ended_front status words all before left written ended) kept
+pub prefix_wrote : (status : Status) (words : List (List ℕ)) (all : List ℕ) (before left written written' : Option (List ℕ)) → HasEnded status words all before left written → Keeps written written' → AppendsPrefix before (output_of words all) written'
+prefix_wrote status words all before left written written' ended kept =
+    AppendsPrefix-kept before written written' (output_of words all) (ended_prefix status words all before left written ended) kept
 
 rose_on : (before now later : ℕ) → Rose before now → now ≤ later → Rose before later
 rose_on before now later rose more = omega (arith, rose, more)
@@ -104,7 +106,64 @@ rose_on before now later rose more = omega (arith, rose, more)
 pub no_cause : (status : Status) (words : List (List ℕ)) (all : List ℕ) (before left written : Option (List ℕ)) (reads reads' writes writes' writes'' : ℕ) → HasEnded status words all before left written → IsFaultCounted status reads reads' writes writes' → writes' ≤ writes'' → is_run words ≡ true → length all ≤ 67108864 → (Rose reads reads' → ⊥) → (Rose writes writes'' → ⊥) → (status ≡ statuses.Ok) ⊎ (status ≡ statuses.Memory)
 no_cause statuses.Ok words all before left written reads reads' writes writes' writes'' ended counted more run short read write = inl refl
 no_cause statuses.Usage words all before left written reads reads' writes writes' writes'' ended counted more run short read write = absurd (false≢true (sym ended.0 ∙ run))
-no_cause statuses.ReadFault words all before left written reads reads' writes writes' writes'' ended counted more run short read write = absurd (read counted)
-no_cause statuses.WriteFault words all before left written reads reads' writes writes' writes'' ended counted more run short read write = absurd (write (rose_on writes writes' writes'' counted more))
+no_cause statuses.ReadFault words all before left written reads reads' writes writes' writes'' ended counted more run short read write = absurd (read counted.0)
+no_cause statuses.WriteFault words all before left written reads reads' writes writes' writes'' ended counted more run short read write = absurd (write (rose_on writes writes' writes'' counted.1 more))
 no_cause statuses.Memory words all before left written reads reads' writes writes' writes'' ended counted more run short read write = inr refl
 no_cause statuses.InputLimit words all before left written reads reads' writes writes' writes'' ended counted more run short read write = absurd (omega (arith, short, ended.1.1.0))
+
+-- a status but WriteFault says that no write failed
+pub writes_stand : (status : Status) (reads reads' writes writes' : ℕ) → IsFaultCounted status reads reads' writes writes' → (status ≡ statuses.WriteFault) ⊎ (writes' ≡ writes)
+writes_stand statuses.Ok reads reads' writes writes' counted = inr counted.1
+writes_stand statuses.Usage reads reads' writes writes' counted = inr counted.1
+writes_stand statuses.ReadFault reads reads' writes writes' counted = inr counted.1
+writes_stand statuses.WriteFault reads reads' writes writes' counted = inl refl
+writes_stand statuses.Memory reads reads' writes writes' counted = inr counted.1
+writes_stand statuses.InputLimit reads reads' writes writes' counted = inr counted.1
+
+-- a status but ReadFault says that no read failed
+pub reads_stand : (status : Status) (reads reads' writes writes' : ℕ) → IsFaultCounted status reads reads' writes writes' → (status ≡ statuses.ReadFault) ⊎ (reads' ≡ reads)
+reads_stand statuses.Ok reads reads' writes writes' counted = inr counted.0
+reads_stand statuses.Usage reads reads' writes writes' counted = inr counted.0
+reads_stand statuses.ReadFault reads reads' writes writes' counted = inl refl
+reads_stand statuses.WriteFault reads reads' writes writes' counted = inr counted.0
+reads_stand statuses.Memory reads reads' writes writes' counted = inr counted.0
+reads_stand statuses.InputLimit reads reads' writes writes' counted = inr counted.0
+
+-- the same of writes, where a last one succeeds
+pub writes_stand_at_end : (status : Status) (reads reads' writes writes' writes'' : ℕ) → IsFaultCounted status reads reads' writes writes' → writes'' ≡ writes' → (status ≡ statuses.WriteFault) ⊎ (writes'' ≡ writes)
+writes_stand_at_end status reads reads' writes writes' writes'' counted last =
+    elim (writes_stand status reads reads' writes writes' counted) [ inl e ↦ inl e | inr e ↦ inr (last ∙ e) ]
+
+-- the same of reads, where a failed write may come instead
+pub reads_stand_or : (status : Status) (reads reads' writes writes' : ℕ) → IsFaultCounted status reads reads' writes writes' → (status ≡ statuses.ReadFault) ⊎ ((status ≡ statuses.WriteFault) ⊎ (reads' ≡ reads))
+reads_stand_or status reads reads' writes writes' counted =
+    elim (reads_stand status reads reads' writes writes' counted) [ inl e ↦ inl e | inr e ↦ inr (inr e) ]
+
+counted_by : (stop : RunFault) (reads reads' writes writes' : ℕ) → IsCaused stop reads reads' writes writes' → IsFaultCounted (status_of stop) reads reads' writes writes'
+counted_by run_faults.Read reads reads' writes writes' caused = caused
+counted_by run_faults.Write reads reads' writes writes' caused = caused
+counted_by run_faults.Limit reads reads' writes writes' caused = caused
+counted_by run_faults.Memory reads reads' writes writes' caused = caused
+
+-- a session that stopped early counted what its status says
+pub stopped_counted : (stop : RunFault) (status : Status) (reads reads' writes writes' : ℕ) → status ≡ status_of stop → IsCaused stop reads reads' writes writes' → IsFaultCounted status reads reads' writes writes'
+stopped_counted stop status reads reads' writes writes' is caused =
+    subst (λ s. IsFaultCounted s reads reads' writes writes') (sym is) (counted_by stop reads reads' writes writes' caused)
+
+-- words that are refused count no failed read
+pub refused_counted : (status : Status) (reads writes writes' : ℕ) → (status ≡ statuses.Usage) ⊎ (status ≡ statuses.WriteFault) → (status ≡ statuses.Usage → writes' ≡ writes) → (status ≡ statuses.WriteFault → Rose writes writes') → IsFaultCounted status reads reads writes writes'
+refused_counted status reads writes writes' (inl e) steady rose =
+    subst (λ s. IsFaultCounted s reads reads writes writes') (sym e) (refl, steady e)
+refused_counted status reads writes writes' (inr e) steady rose =
+    subst (λ s. IsFaultCounted s reads reads writes writes') (sym e) (refl, rose e)
+
+as_counted : (status other : Status) (reads reads' writes writes' : ℕ) → IsFaultCounted status reads reads' writes writes' → status ≡ other → IsFaultCounted other reads reads' writes writes'
+as_counted status other reads reads' writes writes' counted is = subst (λ s. IsFaultCounted s reads reads' writes writes') is counted
+
+pub read_rose : (status : Status) (reads reads' writes writes' : ℕ) → IsFaultCounted status reads reads' writes writes' → status ≡ statuses.ReadFault → Rose reads reads'
+read_rose status reads reads' writes writes' counted is = (as_counted status statuses.ReadFault reads reads' writes writes' counted is).0
+
+-- where a last write succeeds
+pub write_rose : (status : Status) (reads reads' writes writes' writes'' : ℕ) → IsFaultCounted status reads reads' writes writes' → writes' ≤ writes'' → status ≡ statuses.WriteFault → Rose writes writes''
+write_rose status reads reads' writes writes' writes'' counted more is =
+    rose_on writes writes' writes'' (as_counted status statuses.WriteFault reads reads' writes writes' counted is).1 more

@@ -4,18 +4,18 @@ use Rattle.std.proofs.lemmas.Bool.{lt-ltb}
 use Rattle.std.proofs.lemmas.List.{append-nil}
 use Rattle.workbook.specs.State.{State, first_state}
 use Rattle.rtdhost.specs.declared.engine.Engine.{Engine}
-use Rattle.rtdhost.specs.declared.lines.Line.{Line}
-use Rattle.rtdhost.specs.declared.script.Parsed.{Parsed}
+use Rattle.host_io.specs.declared.reader.Line.{Line}
+use Rattle.session_script.specs.declared.script.Parsed.{Parsed}
 use Rattle.rtdhost.specs.Engine.{Stands}
-use Rattle.rtdhost.specs.Lines.{lines_of, IsWhole}
+use Rattle.host_io.specs.Lines.{lines_of, IsWhole}
 use Rattle.rtdhost.specs.Output.{said_reply, said_after, replies_from, state_from}
-use Rattle.rtdhost.specs.Reading.{Reading, HasGiven, IsTextOf}
-use Rattle.rtdhost.specs.Script.{line_said}
+use Rattle.host_io.specs.LineReader.{LineReader, HasGiven, IsTextOf}
+use Rattle.session_script.specs.Script.{line_said}
 use Rattle.rtdhost.specs.Session.{HasAnswered}
-use Rattle.rtdhost.specs.Sink.{Appends, AppendsPrefix}
-use Rattle.rtdhost.proofs.GivenLaws.{lines_at_end}
-use Rattle.rtdhost.proofs.LineLaws.{lines_of-append}
-use Rattle.rtdhost.proofs.SinkLaws.{Appends-more, AppendsPrefix-more, AppendsPrefix-wider}
+use Rattle.host_io.specs.Sink.{Appends, AppendsPrefix}
+use Rattle.host_io.proofs.PublicLaws.{lines_at_end}
+use Rattle.host_io.proofs.PublicLaws.{lines_of-append}
+use Rattle.host_io.proofs.PublicLaws.{Appends-more, AppendsPrefix-more, AppendsPrefix-wider}
 
 none_if : (b : Bool) (o : Option Parsed) → b ≡ true → cond b None o ≡ None
 none_if true o h = refl
@@ -40,17 +40,17 @@ state_more s [] text = refl
 state_more s (line ∷ lines) text = state_more (said_after s (line_said line)) lines text
 
 -- the lines that were given out are the first of all
-front_by : (all : List ℕ) (lines : List (List ℕ)) (r : Reading) (left : List ℕ) (had : HasGiven all lines r left) → IsWhole had.given ⊎ (r.ended ≡ true) → (r.ended ≡ true → (r.pending ≡ []) × (left ≡ [])) → (more : List (List ℕ)) × (lines_of all ≡ lines ++ more)
-front_by all lines r left had (inl whole) end =
+prefix_by : (all : List ℕ) (lines : List (List ℕ)) (r : LineReader) (left : List ℕ) (had : HasGiven all lines r left) → IsWhole had.given ⊎ (r.ended ≡ true) → (r.ended ≡ true → (r.pending ≡ []) × (left ≡ [])) → (more : List (List ℕ)) × (lines_of all ≡ lines ++ more)
+prefix_by all lines r left had (inl whole) end =
     (lines_of (r.pending ++ left), ap lines_of had.bytes ∙ lines_of-append had.given (r.pending ++ left) whole ∙ ap (λ ls. ls ++ lines_of (r.pending ++ left)) had.cut)
-front_by all lines r left had (inr ended) end =
+prefix_by all lines r left had (inr ended) end =
     ([], lines_at_end all lines r left had (end ended).0 (end ended).1 ∙ sym (append-nil lines))
 
-pub given_front : (all : List ℕ) (lines : List (List ℕ)) (r : Reading) (left : List ℕ) → HasGiven all lines r left → (r.ended ≡ true → (r.pending ≡ []) × (left ≡ [])) → (more : List (List ℕ)) × (lines_of all ≡ lines ++ more)
-given_front all lines r left had end = front_by all lines r left had had.whole end
+pub given_prefix : (all : List ℕ) (lines : List (List ℕ)) (r : LineReader) (left : List ℕ) → HasGiven all lines r left → (r.ended ≡ true → (r.pending ≡ []) × (left ≡ [])) → (more : List (List ℕ)) × (lines_of all ≡ lines ++ more)
+given_prefix all lines r left had end = prefix_by all lines r left had had.whole end
 
 -- a line was given out that is not yet answered
-pub record HasNext (all : List ℕ) (before : Option (List ℕ)) (engine : Engine) (r : Reading) (line : Line) (left written : Option (List ℕ)) : Type 0 where
+pub record HasNext (all : List ℕ) (before : Option (List ℕ)) (engine : Engine) (r : LineReader) (line : Line) (left written : Option (List ℕ)) : Type 0 where
   pub lines : List (List ℕ)
   pub text : List ℕ
   pub is : IsTextOf text line
@@ -61,7 +61,7 @@ pub record HasNext (all : List ℕ) (before : Option (List ℕ)) (engine : Engin
   pub stands : Stands engine (state_from first_state lines)
   pub wrote : Appends before (replies_from first_state lines) written
 
-pub line_answered : (all : List ℕ) (before : Option (List ℕ)) (engine engine' : Engine) (r : Reading) (line : Line) (left written written' : Option (List ℕ)) (had : HasNext all before engine r line left written) → Appends written (said_reply (state_from first_state had.lines) (line_said had.text)) written' → Stands engine' (said_after (state_from first_state had.lines) (line_said had.text)) → HasAnswered all before engine' r left written'
+pub line_answered : (all : List ℕ) (before : Option (List ℕ)) (engine engine' : Engine) (r : LineReader) (line : Line) (left written written' : Option (List ℕ)) (had : HasNext all before engine r line left written) → Appends written (said_reply (state_from first_state had.lines) (line_said had.text)) written' → Stands engine' (said_after (state_from first_state had.lines) (line_said had.text)) → HasAnswered all before engine' r left written'
 line_answered all before engine engine' r line left written written' had wrote stands = record {
   lines = had.lines ++ had.text ∷ [];
   rest = had.rest;
@@ -74,12 +74,12 @@ line_answered all before engine engine' r line left written written' had wrote s
       (Appends-more before written written' (replies_from first_state had.lines) _ had.wrote wrote);
 }
 
--- a front of a line's answer makes a front of all answers
-pub line_stopped : (all : List ℕ) (before : Option (List ℕ)) (engine : Engine) (r : Reading) (line : Line) (left written written' : Option (List ℕ)) (had : HasNext all before engine r line left written) → (r.ended ≡ true → r.pending ≡ []) → AppendsPrefix written (said_reply (state_from first_state had.lines) (line_said had.text)) written' → AppendsPrefix before (replies_from first_state (lines_of all)) written'
-line_stopped all before engine r line left written written' had empty front =
+-- a prefix of a line's answer makes a prefix of all answers
+pub line_stopped : (all : List ℕ) (before : Option (List ℕ)) (engine : Engine) (r : LineReader) (line : Line) (left written written' : Option (List ℕ)) (had : HasNext all before engine r line left written) → (r.ended ≡ true → r.pending ≡ []) → AppendsPrefix written (said_reply (state_from first_state had.lines) (line_said had.text)) written' → AppendsPrefix before (replies_from first_state (lines_of all)) written'
+line_stopped all before engine r line left written written' had empty prefix =
     let lines = had.lines ++ had.text ∷ [] in
-    let rest = given_front all lines r had.rest had.given (λ e. (empty e, had.ended e)) in
+    let rest = given_prefix all lines r had.rest had.given (λ e. (empty e, had.ended e)) in
     subst (λ bs. AppendsPrefix before bs written') (sym (ap (replies_from first_state) rest.1 ∙ replies-append first_state lines rest.0))
     (AppendsPrefix-wider before written' (replies_from first_state lines) _
     (subst (λ bs. AppendsPrefix before bs written') (sym (replies_more first_state had.lines had.text))
-    (AppendsPrefix-more before written written' (replies_from first_state had.lines) _ had.wrote front)))
+    (AppendsPrefix-more before written written' (replies_from first_state had.lines) _ had.wrote prefix)))

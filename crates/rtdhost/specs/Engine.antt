@@ -1,4 +1,4 @@
--- What the engine keeps of the host's state.
+-- For the crate's own functions: what the engine keeps of the host's state.
 use Rattle.std.specs.Prelude.{◌≡◌, true, false, List}
 use Rattle.std.specs.BTreeMap.{insert_entry}
 use Rattle.cell_refs.specs.declared.grid.Cell.{Cell}

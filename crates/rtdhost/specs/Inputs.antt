@@ -1,4 +1,4 @@
--- What is known of the values of cells while a recalculation goes on.
+-- For the crate's own functions: what is known of the values of cells while a recalculation goes on.
 use Rattle.std.specs.Prelude.{◌≡◌, ℕ, ◌+◌, ◌<◌, length, true, false, if◌then◌else◌, Option, None, Some, is_some, unwrap_or, List, ◌⊎◌, option_and_then}
 use Rattle.std.specs.List.{AllByRecursion, flat_map, list_all}
 use Rattle.std.specs.List.Sorted.{IsStrictlySortedBy}

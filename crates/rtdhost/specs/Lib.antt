@@ -1,16 +1,13 @@
--- What the contracts of this crate cite.
-pub mod Marking
+-- What the product means.
+pub mod Output
+pub mod Program
+pub mod Words
+-- What the crate's own functions keep.
+pub mod Endings
+pub mod Engine
 pub mod Inputs
+pub mod Marking
 pub mod Publishing
 pub mod Recalculating
-pub mod Engine
-pub mod Lines
-pub mod Program
-pub mod Reading
-pub mod Session
-pub mod Sink
-pub mod Source
 pub mod Scanning
-pub mod Script
-pub mod Replies
-pub mod Output
+pub mod Session

@@ -1,4 +1,4 @@
--- How stale cells are marked.
+-- For the crate's own functions: how stale cells are marked.
 use Rattle.std.specs.Prelude.{◌≡◌, Bool, true, if◌then◌else◌, ◌||◌, ◌⊎◌, List}
 use Rattle.std.specs.List.{list_any}
 use Rattle.cell_refs.specs.declared.grid.Cell.{Cell}

@@ -1,17 +1,17 @@
 -- What the program writes for the bytes that it reads.
-use Rattle.std.specs.Prelude.{ℕ, Bool, false, if◌then◌else◌, Option, Some, None, List, [], ◌∷◌, ◌++◌, codes}
-use Rattle.std.specs.Str.{bytes_eq}
+use Rattle.std.specs.Prelude.{ℕ, if◌then◌else◌, Option, Some, None, List, [], ◌∷◌, ◌++◌, codes}
 use Rattle.workbook.specs.declared.commands.Command.TheVariants as commands
 use Rattle.workbook.specs.State.{State, first_state, reply_to, state_after}
-use Rattle.rtdhost.specs.declared.script.Parsed.{Parsed}
-use Rattle.rtdhost.specs.declared.script.Parsed.TheVariants as parsed
-use Rattle.rtdhost.specs.Lines.{lines_of}
-use Rattle.rtdhost.specs.Replies.{line_of, reply_text}
-use Rattle.rtdhost.specs.Script.{line_said}
+use Rattle.session_script.specs.declared.script.Parsed.{Parsed}
+use Rattle.session_script.specs.declared.script.Parsed.TheVariants as parsed
+use Rattle.host_io.specs.Lines.{lines_of}
+use Rattle.sheet_print.specs.Replies.{bad_text, reply_text}
+use Rattle.session_script.specs.Script.{line_said}
+use Rattle.rtdhost.specs.Words.{is_run, usage_line}
 
 -- what is written for what a line says: the reply's lines; nothing for an empty line; `bad later` for a line of no known form
 abbrev pub said_reply : State → Option Parsed → List ℕ
-said_reply s None = line_of (codes "bad later")
+said_reply s None = bad_text (codes "later")
 said_reply s (Some parsed.Empty) = []
 said_reply s (Some (parsed.One command)) = reply_text (reply_to s command)
 said_reply s (Some (parsed.Calc kind)) = reply_text (reply_to s (commands.Begin kind)) ++ reply_text (reply_to (state_after s (commands.Begin kind)) commands.Settle)
@@ -32,16 +32,6 @@ replies_from s (line ∷ lines) = said_reply s (line_said line) ++ replies_from 
 abbrev pub state_from : State → List (List ℕ) → State
 state_from s [] = s
 state_from s (line ∷ lines) = state_from (said_after s (line_said line)) lines
-
--- whether the words are the one word `run`
-abbrev pub is_run : List (List ℕ) → Bool
-is_run [] = false
-is_run (word ∷ []) = bytes_eq word (codes "run")
-is_run (word ∷ next ∷ words) = false
-
--- the line for words that are not the program's
-abbrev pub usage_line : List ℕ
-usage_line = line_of (codes "usage: rtdhost run")
 
 -- what the program writes for these words, where it reads these bytes
 abbrev pub output_of : List (List ℕ) → List ℕ → List ℕ

@@ -1,4 +1,4 @@
--- How a completed recalculation is shown.
+-- For the crate's own functions: how a completed recalculation is shown.
 use Rattle.std.specs.Prelude.{◌≡◌, true, false, Option, Some, if◌then◌else◌, List}
 use Rattle.std.specs.Option.{option_map}
 use Rattle.std.specs.Map.{lookup}

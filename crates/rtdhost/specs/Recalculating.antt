@@ -1,4 +1,4 @@
--- What a recalculation goes on from.
+-- For the crate's own functions: what a recalculation goes on from.
 use Rattle.std.specs.Prelude.{◌≡◌, false, List}
 use Rattle.cell_refs.specs.declared.grid.Cell.{Cell}
 use Rattle.workbook.specs.declared.contents.Content.{Content}

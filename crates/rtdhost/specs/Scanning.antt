@@ -1,4 +1,4 @@
--- Which cells lie in areas, and which of them is next.
+-- For the crate's own functions: which cells lie in areas, and which of them is next.
 use Rattle.std.specs.Prelude.{◌≡◌, Bool, true, false, if◌then◌else◌, Option, None, Some, List}
 use Rattle.std.specs.Ordering.{is_lt}
 use Rattle.cell_refs.specs.declared.areas.Area.{Area}

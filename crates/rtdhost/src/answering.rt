@@ -3,14 +3,14 @@
 ghost use Rattle.std.specs.Prelude.{◌≡◌, ◌++◌, ◌+◌, ◌^◌, ◌<◌, ◌≤◌, OnOk, OnErr, None, Some, take, vec_len};
 ghost use Rattle.rtdhost.specs.Engine.{Stands};
 ghost use Rattle.rtdhost.specs.Output.{said_reply, said_after};
-ghost use Rattle.rtdhost.specs.Replies.{line_of, reply_text};
-ghost use Rattle.rtdhost.specs.Script.{line_said};
+ghost use Rattle.sheet_print.specs.Replies.{reply_text};
+ghost use Rattle.session_script.specs.Script.{line_said};
 ghost use Rattle.workbook.specs.State.{State, reply_to, state_after};
 
 use super::engine::Engine;
-use super::replies::{write_line, write_reply};
-use super::script::{BadLine, Parsed, read_line};
 use cell_values::Memory;
+use session_script::{BadLine, Parsed, read_line};
+use sheet_print::{bad_text, reply_text};
 use std::alloc::Global;
 use workbook::{BeginKind, Command};
 
@@ -42,7 +42,7 @@ pub fn answer_bad(out: &mut Vec<u8>) -> Result<(), Memory>
     ensures ok { (s : State) → OnOk result (out.new.items ≡ out.old.items ++ said_reply s None) }
     ensures err { OnErr result (out.new.items ≡ out.old.items) }
 {
-    write_line(b"bad later", out)
+    bad_text("later", out)
 }
 
 /// Acts on a command and appends the reply's lines.
@@ -56,7 +56,7 @@ fn act(engine: &mut Engine, command: Command, out: &mut Vec<u8>) -> Result<(), M
     ensures round { OnOk result (engine.new.round ≤ engine.old.round + 1) }
 {
     let reply = engine.act(command)?;
-    write_reply(&reply, out)
+    reply_text(&reply, out)
 }
 
 /// Begins a recalculation and settles it.

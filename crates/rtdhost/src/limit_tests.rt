@@ -1,7 +1,6 @@
 use super::program::Status;
 use super::program_tests::run;
-use super::sinks::MemorySink;
-use super::sources::MemorySource;
+use host_io::{MemorySink, MemorySource};
 use std::alloc::Global;
 use std::process::Abort;
 use std::test::Fail;

@@ -1,19 +1,22 @@
 //! The program: its words, the script that it reads, and the status that it ends with.
 
+ghost use Rattle.std.specs.Process.{exit_status};
 ghost use Rattle.std.specs.Prelude.{◌≡◌, ◌≢◌, ◌⊎◌, ◌<◌, ◌≤◌, ℕ, List, [], Some, IfErr, OnOk, OnErr, length, take, drop, true, false};
-ghost use Rattle.std.specs.Io.KnownBytes.{Keeps};
 ghost use Rattle.workbook.specs.State.{first_state};
-ghost use Rattle.rtdhost.specs.Lines.{whole_lines};
-ghost use Rattle.rtdhost.specs.Output.{is_run, output_of, replies_from, usage_line};
-ghost use Rattle.rtdhost.specs.Program.{HasEnded, IsFaultCounted, status_of, texts};
+ghost use Rattle.host_io.specs.declared.limits.TheConstants.{MAX_INPUT};
+ghost use Rattle.host_io.specs.Count.{Rose};
+ghost use Rattle.host_io.specs.Lines.{whole_lines};
+ghost use Rattle.rtdhost.specs.Output.{output_of, replies_from};
+ghost use Rattle.rtdhost.specs.Endings.{HasEnded, IsFaultCounted, status_of};
+ghost use Rattle.rtdhost.specs.Program.{exit_code};
 ghost use Rattle.rtdhost.specs.Session.{HasFinished, HasStopped, IsCaused};
-ghost use Rattle.rtdhost.specs.Sink.{Appends, AppendsPrefix, Rose};
+ghost use Rattle.rtdhost.specs.Words.{is_run, texts, usage_line};
+ghost use Rattle.host_io.specs.Sink.{Appends, AppendsPrefix};
 
-use super::put::put;
-use super::session::{Halt, Session};
-use super::sinks::Sink;
-use super::sources::{Failed, Source};
+use super::session::Session;
+use host_io::{RunFault, Sink, Source, put};
 use std::alloc::Global;
+use std::process::ExitCode;
 
 /// How the program ends.
 #[derive(Clone, Copy, Debug, PartialEq, Eq)]
@@ -33,8 +36,6 @@ pub enum Status {
 }
 
 impl Status {
-    ghost use Rattle.rtdhost.specs.Program.{exit_code};
-
     /// The exit status of the process, from 0 to 6.
     pub fn code(self) -> u8
         ensures { result ≡ exit_code self }
@@ -48,6 +49,13 @@ impl Status {
             Status::InputLimit => 6,
         }
     }
+}
+
+/// Ends the process with the exit status of this status.
+pub fn exit_with(status: Status) -> ExitCode
+    ensures { exit_status result ≡ exit_code status }
+{
+    ExitCode::from(status.code())
 }
 
 /// Reads a script from `src` to its end, acts on each line, and writes the answers to `out`. The words are those behind
@@ -79,7 +87,10 @@ pub fn rtd_host_plain<I: Source, O: Sink>(
         ⊎ (result ≡ Status.WriteFault) }
     ensures unread { is_run (texts words.now) ≡ false → src.new ≡ src.old }
 
-    // A failure was counted in this call.
+    // Each failure that was counted in this call is answered, and none is answered that was not.
+    ensures write_passed_on { (result ≡ Status.WriteFault) ⊎ (O.faults out.new ≡ O.faults out.old) }
+    ensures read_passed_on { (result ≡ Status.ReadFault)
+        ⊎ ((result ≡ Status.WriteFault) ⊎ (I.faults src.new ≡ I.faults src.old)) }
     ensures read_fault { result ≡ Status.ReadFault → Rose (I.faults src.old) (I.faults src.new) }
     ensures write_fault { result ≡ Status.WriteFault → Rose (O.faults out.old) (O.faults out.new) }
 
@@ -90,22 +101,22 @@ pub fn rtd_host_plain<I: Source, O: Sink>(
         × Appends (O.written out.old) (replies_from first_state (whole_lines (take n input)))
         (O.written out.new) }
     ensures limit { (input : List ℕ) → I.remaining src.old ≡ Some input → result ≡ Status.InputLimit
-        → 67108864 < length input }
+        → MAX_INPUT < length input }
     ensures limit_answered { (input : List ℕ) → I.remaining src.old ≡ Some input
         → result ≡ Status.InputLimit
-        → Appends (O.written out.old) (replies_from first_state (whole_lines (take 67108864 input)))
-        (O.written out.new) }
+        → Appends (O.written out.old) (replies_from first_state
+        (whole_lines (take MAX_INPUT input))) (O.written out.new) }
     ensures within { (input : List ℕ) → I.remaining src.old ≡ Some input → result ≡ Status.Ok
-        → length input ≤ 67108864 }
+        → length input ≤ MAX_INPUT }
 
-    // With every status a front of the defined output was written, and nothing else.
-    ensures front { (input : List ℕ) → I.remaining src.old ≡ Some input
+    // With every status a prefix of the defined output was written, and nothing else.
+    ensures prefix { (input : List ℕ) → I.remaining src.old ≡ Some input
         → AppendsPrefix (O.written out.old) (output_of (texts words.now) input)
         (O.written out.new) }
 
     // With no cause for another status it is Ok, or Memory, which alone has none.
     ensures complete { (input : List ℕ) → I.remaining src.old ≡ Some input
-        → is_run (texts words.now) ≡ true → length input ≤ 67108864
+        → is_run (texts words.now) ≡ true → length input ≤ MAX_INPUT
         → (Rose (I.faults src.old) (I.faults src.new) → ⊥)
         → (Rose (O.faults out.old) (O.faults out.new) → ⊥)
         → (result ≡ Status.Ok) ⊎ (result ≡ Status.Memory) }
@@ -136,19 +147,21 @@ fn respond<I: Source, O: Sink>(alloc: Global, words: &[String], src: &mut I, out
     }
     match run(alloc, src, out) {
         Ok(()) => Status::Ok,
-        Err(halt) => status_at(halt),
+        Err(stop) => status_at(stop),
     }
 }
 
 /// Reads a script to its end.
-fn run<I: Source, O: Sink>(alloc: Global, src: &mut I, out: &mut O) -> Result<(), Halt>
+fn run<I: Source, O: Sink>(alloc: Global, src: &mut I, out: &mut O) -> Result<(), RunFault>
     ensures finished { (input : List ℕ) → I.remaining src.old ≡ Some input
         → OnOk result (HasFinished input (O.written out.old) (I.remaining src.new)
         (O.written out.new)) }
     ensures stopped { (input : List ℕ) → I.remaining src.old ≡ Some input
-        → IfErr result (λ halt. HasStopped halt input (O.written out.old) (I.remaining src.new)
+        → IfErr result (λ stop. HasStopped stop input (O.written out.old) (I.remaining src.new)
         (O.written out.new)) }
-    ensures caused { IfErr result (λ halt. IsCaused halt (I.faults src.old) (I.faults src.new)
+    ensures steady { OnOk result ((I.faults src.new ≡ I.faults src.old)
+        × (O.faults out.new ≡ O.faults out.old)) }
+    ensures caused { IfErr result (λ stop. IsCaused stop (I.faults src.old) (I.faults src.new)
         (O.faults out.old) (O.faults out.new)) }
     ensures writes { O.faults out.old ≤ O.faults out.new }
 {
@@ -163,6 +176,7 @@ fn refuse<O: Sink>(out: &mut O) -> Status
         → AppendsPrefix (O.written out.old) usage_line (O.written out.new)
         × Rose (O.faults out.old) (O.faults out.new) }
     ensures either { (result ≡ Status.Usage) ⊎ (result ≡ Status.WriteFault) }
+    ensures steady { result ≡ Status.Usage → O.faults out.new ≡ O.faults out.old }
     ensures writes { O.faults out.old ≤ O.faults out.new }
 {
     match put(out, b"usage: rtdhost run\n") {
@@ -182,13 +196,13 @@ fn is_run(words: &[String]) -> bool
 }
 
 /// The status of a session that stopped early.
-fn status_at(halt: Halt) -> Status
-    ensures { result ≡ status_of halt }
+fn status_at(stop: RunFault) -> Status
+    ensures { result ≡ status_of stop }
 {
-    match halt {
-        Halt::Read => Status::ReadFault,
-        Halt::Write => Status::WriteFault,
-        Halt::Limit => Status::InputLimit,
-        Halt::Memory => Status::Memory,
+    match stop {
+        RunFault::Read => Status::ReadFault,
+        RunFault::Write => Status::WriteFault,
+        RunFault::Limit => Status::InputLimit,
+        RunFault::Memory => Status::Memory,
     }
 }

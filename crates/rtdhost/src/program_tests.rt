@@ -1,8 +1,7 @@
 ghost use Rattle.std.specs.Prelude.{◌<◌};
 
 use super::program::{Status, rtd_host_plain};
-use super::sinks::MemorySink;
-use super::sources::MemorySource;
+use host_io::{MemorySink, MemorySource};
 use std::alloc::Global;
 use std::process::Abort;
 use std::test::Fail;
@@ -193,13 +192,13 @@ fn contents_that_are_not_read(rt: HostRuntime) -> Result<(), Fail> {
 
 #[test]
 fn a_text_has_at_most_32767_characters(rt: HostRuntime) -> Result<(), Fail> {
-    for (front, count, want) in [
+    for (prefix, count, want) in [
         ("set A1 ", 32_767, "ok\n"),
         ("set A1 ", 32_768, "bad later\n"),
         ("set A1 '", 32_767, "ok\n"),
         ("set A1 '", 32_768, "bad later\n"),
     ] {
-        let mut bytes = Vec::from_slice(rt.alloc(), front.as_bytes())?;
+        let mut bytes = Vec::from_slice(rt.alloc(), prefix.as_bytes())?;
         bytes.extend_from_slice(vec![in rt.alloc(); b'x'; count]?.as_slice())?;
         let mut src = MemorySource::new(bytes, 1000, Vec::new(rt.alloc()));
         let mut out = MemorySink::new(rt.alloc(), 1000, Vec::new(rt.alloc()));
@@ -207,7 +206,7 @@ fn a_text_has_at_most_32767_characters(rt: HostRuntime) -> Result<(), Fail> {
         assert_eq!(rt;
             out.written(),
             want.as_bytes(),
-            "of {count} behind {front:?}"
+            "of {count} behind {prefix:?}"
         );
     }
     Ok(())
@@ -252,6 +251,16 @@ fn a_sink_that_fails_at_its_first_call(rt: HostRuntime) -> Result<(), Fail> {
     let mut out = MemorySink::new(rt.alloc(), 1000, vec![in rt.alloc(); 1]?);
     assert_eq!(rt; run(rt.alloc(), &mut src, &mut out)?, Status::WriteFault);
     assert_eq!(rt; out.written(), b"".as_slice());
+    Ok(())
+}
+
+#[test]
+fn a_sink_that_fails_at_finish_alone(rt: HostRuntime) -> Result<(), Fail> {
+    let bytes = Vec::from_slice(rt.alloc(), b"set A1 2\nprint\n")?;
+    let mut src = MemorySource::new(bytes, 1000, Vec::new(rt.alloc()));
+    let mut out = MemorySink::new(rt.alloc(), 1000, vec![in rt.alloc(); 3]?);
+    assert_eq!(rt; run(rt.alloc(), &mut src, &mut out)?, Status::WriteFault);
+    assert_eq!(rt; out.written(), b"ok\nend\n".as_slice());
     Ok(())
 }
 

@@ -5,32 +5,17 @@ ghost use Rattle.std.specs.Io.KnownBytes.{Keeps};
 ghost use Rattle.workbook.specs.State.{State, first_state};
 ghost use Rattle.rtdhost.specs.Engine.{Stands};
 ghost use Rattle.rtdhost.specs.Output.{said_reply, said_after};
-ghost use Rattle.rtdhost.specs.Reading.{given_out_count, IsTextOf};
-ghost use Rattle.rtdhost.specs.Script.{line_said};
-ghost use Rattle.rtdhost.specs.Session.{IsBounded, HasAnswered, HasFinished, HasStopped, IsCaused, IsWriteCaused, has_text, halt_of};
-ghost use Rattle.rtdhost.specs.Sink.{Appends, AppendsPrefix};
+ghost use Rattle.host_io.specs.declared.limits.TheConstants.{MAX_INPUT};
+ghost use Rattle.host_io.specs.LineReader.{given_out_count, IsTextOf};
+ghost use Rattle.session_script.specs.Script.{line_said};
+ghost use Rattle.rtdhost.specs.Session.{IsBounded, HasAnswered, HasFinished, HasStopped, IsCaused, IsWriteCaused, has_text, run_fault_of};
+ghost use Rattle.host_io.specs.Sink.{Appends, AppendsPrefix};
 
 use super::answering::{answer, answer_bad};
 use super::engine::Engine;
-use super::lines::{Line, LineFault, Lines};
-use super::put::put;
-use super::sinks::Sink;
-use super::sources::Source;
 use cell_values::Memory;
+use host_io::{Line, LineFault, Lines, RunFault, Sink, Source, put};
 use std::alloc::Global;
-
-/// Why a session stops before the end of its input.
-#[derive(Clone, Copy, Debug, PartialEq, Eq)]
-pub enum Halt {
-    /// The source failed.
-    Read,
-    /// The sink failed.
-    Write,
-    /// A byte came after 67,108,864 bytes were taken.
-    Limit,
-    /// Memory ran out.
-    Memory,
-}
 
 /// A reader of lines, the engine that acts on them, and the answer to the line that was read last.
 #[derive(Drop)]
@@ -57,7 +42,7 @@ impl Session {
     }
 
     /// Acts on all lines that the source gives, and writes their answers.
-    pub fn read_all<I: Source, O: Sink>(&mut self, src: &mut I, out: &mut O) -> Result<(), Halt>
+    pub fn read_all<I: Source, O: Sink>(&mut self, src: &mut I, out: &mut O) -> Result<(), RunFault>
         requires fault { self.old.lines.fault ≡ None }
         requires bounded { IsBounded self.old.engine self.old.lines }
         ensures finished { (all : List ℕ) (before : Option (List ℕ))
@@ -67,9 +52,11 @@ impl Session {
         ensures stopped { (all : List ℕ) (before : Option (List ℕ))
             → HasAnswered all before self.old.engine self.old.lines (I.remaining src.old)
             (O.written out.old)
-            → IfErr result (λ halt. HasStopped halt all before (I.remaining src.new)
+            → IfErr result (λ stop. HasStopped stop all before (I.remaining src.new)
             (O.written out.new)) }
-        ensures caused { IfErr result (λ halt. IsCaused halt (I.faults src.old) (I.faults src.new)
+        ensures steady { OnOk result ((I.faults src.new ≡ I.faults src.old)
+            × (O.faults out.new ≡ O.faults out.old)) }
+        ensures caused { IfErr result (λ stop. IsCaused stop (I.faults src.old) (I.faults src.new)
             (O.faults out.old) (O.faults out.new)) }
         ensures writes { O.faults out.old ≤ O.faults out.new }
     {
@@ -78,7 +65,7 @@ impl Session {
     }
 
     /// Acts on the next line and writes its answer; false at the end of the input.
-    fn turn<I: Source, O: Sink>(&mut self, src: &mut I, out: &mut O) -> Result<bool, Halt>
+    fn turn<I: Source, O: Sink>(&mut self, src: &mut I, out: &mut O) -> Result<bool, RunFault>
         requires fault { self.old.lines.fault ≡ None }
         requires bounded { IsBounded self.old.engine self.old.lines }
         ensures more { (all : List ℕ) (before : Option (List ℕ))
@@ -95,9 +82,11 @@ impl Session {
         ensures stopped { (all : List ℕ) (before : Option (List ℕ))
             → HasAnswered all before self.old.engine self.old.lines (I.remaining src.old)
             (O.written out.old)
-            → IfErr result (λ halt. HasStopped halt all before (I.remaining src.new)
+            → IfErr result (λ stop. HasStopped stop all before (I.remaining src.new)
             (O.written out.new)) }
-        ensures caused { IfErr result (λ halt. IsCaused halt (I.faults src.old) (I.faults src.new)
+        ensures steady { OnOk result ((I.faults src.new ≡ I.faults src.old)
+            × (O.faults out.new ≡ O.faults out.old)) }
+        ensures caused { IfErr result (λ stop. IsCaused stop (I.faults src.old) (I.faults src.new)
             (O.faults out.old) (O.faults out.new)) }
         ensures reads { I.faults src.old ≤ I.faults src.new }
         ensures writes { O.faults out.old ≤ O.faults out.new }
@@ -105,28 +94,29 @@ impl Session {
         ensures bounded { result ≡ Ok true → IsBounded self.new.engine self.new.lines }
         ensures advances { result ≡ Ok true
             → given_out_count self.old.lines < given_out_count self.new.lines }
-        ensures within { given_out_count self.new.lines ≤ 67108864 }
+        ensures within { given_out_count self.new.lines ≤ MAX_INPUT }
     {
         match self.lines.next(src) {
             Ok(line) => self.answer(line, out),
-            Err(fault) => Err(halted_by(fault)),
+            Err(fault) => Err(stop_at(fault)),
         }
     }
 
     /// Acts on a line and writes its answer; false at the end of the input.
-    fn answer<O: Sink>(&mut self, line: Line, out: &mut O) -> Result<bool, Halt>
+    fn answer<O: Sink>(&mut self, line: Line, out: &mut O) -> Result<bool, RunFault>
         requires { self.old.engine.round + 2 < 2 ^ 64 }
         ensures said { (s : State) (text : List ℕ) → Stands self.old.engine s → IsTextOf text line
             → OnOk result (Appends (O.written out.old) (said_reply s (line_said text))
             (O.written out.new)
             × Stands self.new.engine (said_after s (line_said text))) }
-        ensures front { (s : State) (text : List ℕ) → Stands self.old.engine s → IsTextOf text line
+        ensures prefix { (s : State) (text : List ℕ) → Stands self.old.engine s → IsTextOf text line
             → OnErr result (AppendsPrefix (O.written out.old) (said_reply s (line_said text))
             (O.written out.new)) }
         ensures more { MatchResult result (λ more. more ≡ has_text line) (λ _. has_text line
             ≡ true) }
         ensures end { has_text line ≡ false → Keeps (O.written out.old) (O.written out.new) }
-        ensures caused { IfErr result (λ halt. IsWriteCaused halt (O.faults out.old)
+        ensures steady { OnOk result (O.faults out.new ≡ O.faults out.old) }
+        ensures caused { IfErr result (λ stop. IsWriteCaused stop (O.faults out.old)
             (O.faults out.new)) }
         ensures writes { O.faults out.old ≤ O.faults out.new }
         ensures round { OnOk result (self.new.engine.round ≤ self.old.engine.round + 2) }
@@ -135,7 +125,7 @@ impl Session {
         match self.act(line) {
             Ok(true) => self.hand_over(out),
             Ok(false) => Ok(false),
-            Err(_) => Err(Halt::Memory),
+            Err(_) => Err(RunFault::Memory),
         }
     }
 
@@ -165,29 +155,30 @@ impl Session {
     }
 
     /// Writes the answer that is held.
-    fn hand_over<O: Sink>(&self, out: &mut O) -> Result<bool, Halt>
+    fn hand_over<O: Sink>(&self, out: &mut O) -> Result<bool, RunFault>
         ensures all { IfOk result (λ more. (more ≡ true)
             × Appends (O.written out.old) self.now.replies.items (O.written out.new)) }
-        ensures front { OnErr result (AppendsPrefix (O.written out.old) self.now.replies.items
+        ensures prefix { OnErr result (AppendsPrefix (O.written out.old) self.now.replies.items
             (O.written out.new)) }
-        ensures caused { IfErr result (λ halt. IsWriteCaused halt (O.faults out.old)
+        ensures steady { OnOk result (O.faults out.new ≡ O.faults out.old) }
+        ensures caused { IfErr result (λ stop. IsWriteCaused stop (O.faults out.old)
             (O.faults out.new)) }
         ensures writes { O.faults out.old ≤ O.faults out.new }
     {
         match put(out, self.replies.as_slice()) {
             Ok(()) => Ok(true),
-            Err(_) => Err(Halt::Write),
+            Err(_) => Err(RunFault::Write),
         }
     }
 }
 
 /// Why a reader that gives no more lines stops the session.
-fn halted_by(fault: LineFault) -> Halt
-    ensures { result ≡ halt_of fault }
+fn stop_at(fault: LineFault) -> RunFault
+    ensures { result ≡ run_fault_of fault }
 {
     match fault {
-        LineFault::Read => Halt::Read,
-        LineFault::Limit => Halt::Limit,
-        LineFault::Memory => Halt::Memory,
+        LineFault::Read => RunFault::Read,
+        LineFault::Limit => RunFault::Limit,
+        LineFault::Memory => RunFault::Memory,
     }
 }

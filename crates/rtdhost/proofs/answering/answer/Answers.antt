@@ -1,5 +1,5 @@
 use Rattle.std.proofs.Common.{Err, ap}
-use Rattle.rtdhost.proofs.Appending.{OnOk-with}
+use Rattle.sheet_print.proofs.PublicLaws.{OnOk-with}
 use Rattle.rtdhost.proofs.answering.answer.Goals as goal
 
 pub returns-in-Err-Later-clause-step : goal.returns-in-Err-Later-clause-step

@@ -1,6 +1,6 @@
 use Rattle.std.proofs.Common.{ap, subst, ◌∙◌, ◌++◌, None}
 use Rattle.rtdhost.specs.Output.{said_reply}
-use Rattle.rtdhost.specs.Reading.{IsTextOf}
+use Rattle.host_io.specs.LineReader.{IsTextOf}
 use Rattle.rtdhost.proofs.Sessions.{too_long}
 use Rattle.rtdhost.proofs.session.Session.act.Goals as goal
 

@@ -1,5 +1,6 @@
 use Rattle.std.proofs.Common.{◌≡◌, ◌-◌, ◌≤◌, ℕ, List, Option, None}
-use Rattle.rtdhost.specs.Reading.{given_out_count}
+use Rattle.host_io.specs.declared.limits.TheConstants.{MAX_INPUT}
+use Rattle.host_io.specs.LineReader.{given_out_count}
 use Rattle.rtdhost.specs.Session.{IsBounded, HasAnswered}
 use Rattle.rtdhost.proofs.session.Session.read_all.Given as goal
 
@@ -11,8 +12,8 @@ invariant-loop g l =
     → HasAnswered all before l.self.engine l.self.lines (g.I.Source.remaining l.src) (g.O.Sink.written l.out))
     × (l.self.lines.fault ≡ None)
     × IsBounded l.self.engine l.self.lines
-    × (g.I.Source.faults l.fn.src ≤ g.I.Source.faults l.src)
-    × (g.O.Sink.faults l.fn.out ≤ g.O.Sink.faults l.out)
+    × (g.I.Source.faults l.src ≡ g.I.Source.faults l.fn.src)
+    × (g.O.Sink.faults l.out ≡ g.O.Sink.faults l.fn.out)
 
 abbrev pub decreases-loop : goal.decreases-loop
-decreases-loop g l = 67108864 - given_out_count l.self.lines
+decreases-loop g l = MAX_INPUT - given_out_count l.self.lines

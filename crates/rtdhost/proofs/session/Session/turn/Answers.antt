@@ -1,6 +1,7 @@
 use Rattle.std.proofs.Common.{◌≡◌, MatchResult, ap, subst, sym, ◌∙◌, Err, true, false, refl}
 use Rattle.std.proofs.lemmas.Bool.{false≢true}
 use Rattle.rtdhost.specs.Session.{has_text}
+use Rattle.rtdhost.proofs.Faults.{OnOk-beside, line_without_fault, caused_by_line, caused_by_reader}
 use Rattle.rtdhost.proofs.Turns.{not_ended, next_given, answer_more, answer_stopped, reader_stopped, reader_finished, at_end_if, goes_on}
 use Rattle.rtdhost.proofs.session.Session.turn.Goals as goal
 
@@ -27,10 +28,22 @@ returns-in-Ok-clause-stopped g c all before had =
     let going = not_ended c.args.self.now.lines.ended c.next.result (λ e. (c.next.ensures.done c.requires.fault e).0) (subst (λ r. goes_on r ≡ true) (sym c.in-Ok.is) text) in
     let moved = c.in-Ok.ensures.moved in
     next_given all before c.args.self.now.engine c.args.self.now.lines c.next.new.self _ (g.I.Source.remaining c.next.new.src) (g.O.Sink.written c.args.out.now) c.in-Ok.line moved.0 had going text moved.1 moved.2 (λ e. c.next.ensures.ended (λ f. absurd (false≢true (sym going ∙ f))) e))
-    c.next.ensures.empty c.answer.ensures.more c.answer.ensures.front c.answer.ensures.caused
+    c.next.ensures.empty c.answer.ensures.more c.answer.ensures.prefix c.answer.ensures.caused
 
 pub returns-in-Err-clause-stopped : goal.returns-in-Err-clause-stopped
 returns-in-Err-clause-stopped g c all before had =
     let going = not_ended c.args.self.now.lines.ended c.next.result (λ e. (c.next.ensures.done c.requires.fault e).0) (subst (λ r. goes_on r ≡ true) (sym c.in-Err.is) refl) in
-    reader_stopped all before c.args.self.now.engine c.args.self.now.lines c.next.new.self (g.I.Source.remaining c.args.src.now) (g.I.Source.remaining c.next.new.src) _ c.in-Err.fault c.halted_by.result had going c.halted_by.ensures
+    reader_stopped all before c.args.self.now.engine c.args.self.now.lines c.next.new.self (g.I.Source.remaining c.args.src.now) (g.I.Source.remaining c.next.new.src) _ c.in-Err.fault c.stop_at.result had going c.stop_at.ensures
     (c.in-Err.ensures.left c.requires.fault) (λ e. c.next.ensures.limit c.requires.fault (c.in-Err.is ∙ ap Err e))
+
+pub returns-in-Ok-clause-steady : goal.returns-in-Ok-clause-steady
+returns-in-Ok-clause-steady g c =
+    OnOk-beside c.answer.result _ _ (line_without_fault c.in-Ok.line _ c.in-Ok.ensures.steady) c.answer.ensures.steady
+
+pub returns-in-Ok-clause-caused : goal.returns-in-Ok-clause-caused
+returns-in-Ok-clause-caused g c =
+    caused_by_line c.answer.result _ _ _ _ (line_without_fault c.in-Ok.line _ c.in-Ok.ensures.steady) c.answer.ensures.caused
+
+pub returns-in-Err-clause-caused : goal.returns-in-Err-clause-caused
+returns-in-Err-clause-caused g c =
+    caused_by_reader c.in-Err.fault c.stop_at.result _ _ _ c.stop_at.ensures c.in-Err.ensures.steady (c.in-Err.ensures.read c.requires.fault)

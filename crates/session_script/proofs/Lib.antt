@@ -1,0 +1,2 @@
+-- What lines say.
+mod Scripts

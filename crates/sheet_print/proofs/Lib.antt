@@ -1,0 +1,3 @@
+-- Laws of what is appended.
+mod Appending
+pub mod PublicLaws
