@@ -2,7 +2,7 @@
 mod Cells
 mod Counts
 mod Entries
-mod FunctionLaws
+mod RegistryLaws
 mod Settling
 mod Walking
 mod Reaching

@@ -1,7 +1,8 @@
 use Rattle.std.proofs.Common.{◌≡◌, ap, rules, sym, subst, ◌∙◌, option_copied}
-use Rattle.workbook.specs.Functions.{AreNamed, is_past, functions_of, next_name}
-use Rattle.workbook.proofs.FunctionLaws.{next-here, next-later, next-none}
-use Rattle.workbook.proofs.registry.Functions.next_name.Goals as goal
+use Rattle.workbook.specs.Registry.{is_past, next_name}
+use Rattle.workbook.specs.NamedEntries.{AreNamed, functions_of}
+use Rattle.workbook.proofs.RegistryLaws.{next-here, next-later, next-none}
+use Rattle.workbook.proofs.registry.Registry.next_name.Goals as goal
 
 pub loop-key-init : goal.loop-key-init
 loop-key-init c =

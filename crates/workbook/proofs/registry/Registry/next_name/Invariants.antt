@@ -1,6 +1,7 @@
 use Rattle.std.proofs.Common.{◌≡◌, option_copied}
-use Rattle.workbook.specs.Functions.{AreNamed, functions_of, next_name}
-use Rattle.workbook.proofs.registry.Functions.next_name.Given as goal
+use Rattle.workbook.specs.Registry.{next_name}
+use Rattle.workbook.specs.NamedEntries.{AreNamed, functions_of}
+use Rattle.workbook.proofs.registry.Registry.next_name.Given as goal
 
 -- the name that is sought is the least among those that are left
 abbrev pub invariant-loop-key : goal.invariant-loop-key

@@ -4,24 +4,26 @@ use Rattle.std.specs.List.{AllByRecursion}
 use Rattle.std.specs.List.Sorted.{IsStrictlySortedBy}
 use Rattle.std.specs.Map.{lookup, keys_of}
 use Rattle.std.specs.Option.{option_map}
-use Rattle.std.specs.Ordering.{match_ordering}
+use Rattle.std.specs.Ordering.{is_eq, match_ordering}
 use Rattle.std.specs.BTreeMap.{insert_entry}
 use Rattle.std.specs.String.{string_bytes}
 use Rattle.std.specs.declared.cmp.Ordering.{Ordering}
 use Rattle.std.specs.declared.cmp.Ordering.TheVariants.{Less, Equal, Greater}
 use Rattle.std.specs.declared.string.String.{String}
 use Rattle.std.proofs.lemmas.Map.Lookups.{exact_bytes}
+use Rattle.std.proofs.lemmas.Map.Text.{is_eq-slice_cmp}
 use Rattle.addin_types.specs.declared.registrations.Registration.{Registration}
-use Rattle.workbook.specs.Functions.{name_cmp, key_cmp, AreInOrder, AreNamed, functions_of, is_past, next_name}
+use Rattle.workbook.specs.Registry.{name_cmp, AreInOrder, is_past, next_name, registration_of}
+use Rattle.workbook.specs.NamedEntries.{key_cmp, AreNamed, functions_of}
 
--- a look-up by the bytes of the keys
-pub lookup-named : {Z : Type 0} (test : List ℕ → Bool) (es : List (String Z × (List ℕ × Registration)))
-    → lookup test (functions_of es) ≡ option_map (λ v. v.1) (lookup (λ k. test (string_bytes k)) es)
-lookup-named test [] = refl
-lookup-named test (e ∷ es) = by (test (string_bytes e.0)) (lookup-named test es)
+-- a look-up by the order of names finds what one by equality of their bytes does
+pub lookup-bytes : {Z : Type 0} (name : List ℕ) (es : List (String Z × (List ℕ × Registration)))
+    → registration_of (functions_of es) name ≡ option_map (λ v. v.1) (lookup (λ k. is_eq (name_cmp name (string_bytes k))) es)
+lookup-bytes name [] = refl
+lookup-bytes name (e ∷ es) = ap (λ b. cond b (Some e.1.1) (registration_of (functions_of es) name)) (sym (is_eq-slice_cmp name (string_bytes e.0))) ∙ by (is_eq (name_cmp name (string_bytes e.0))) (lookup-bytes name es)
   where
-    by : (b : Bool) → lookup test (functions_of es) ≡ option_map (λ v. v.1) (lookup (λ k. test (string_bytes k)) es)
-        → cond b (Some e.1.1) (lookup test (functions_of es)) ≡ option_map (λ v. v.1) (cond b (Some e.1) (lookup (λ k. test (string_bytes k)) es))
+    by : (b : Bool) → registration_of (functions_of es) name ≡ option_map (λ v. v.1) (lookup (λ k. is_eq (name_cmp name (string_bytes k))) es)
+        → cond b (Some e.1.1) (registration_of (functions_of es) name) ≡ option_map (λ v. v.1) (cond b (Some e.1) (lookup (λ k. is_eq (name_cmp name (string_bytes k))) es))
     by true h = refl
     by false h = h
 

@@ -1,6 +1,6 @@
 use Rattle.std.proofs.Common.{sym, ◌∙◌}
-use Rattle.workbook.proofs.FunctionLaws.{kept-names, put-named, named-ordered}
-use Rattle.workbook.proofs.registry.Functions.register.Goals as goal
+use Rattle.workbook.proofs.RegistryLaws.{kept-names, put-named, named-ordered}
+use Rattle.workbook.proofs.registry.Registry.register.Goals as goal
 
 pub invariant_of-self : goal.invariant_of-self
 invariant_of-self c = (
