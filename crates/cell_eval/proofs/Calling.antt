@@ -21,10 +21,10 @@ use Rattle.functions.specs.declared.arguments.Arg.{Arg}
 use Rattle.functions.specs.declared.functions.Function.{Function}
 use Rattle.functions.specs.declared.functions.Function.TheVariants as functions
 use Rattle.functions.specs.Applied.{result_of}
-use Rattle.functions.specs.Functions.{function_named, arity_of}
+use Rattle.functions.specs.Functions.{function_named, arity_of, is_within}
 use Rattle.functions.specs.Inputs.{all_ok}
 use Rattle.functions.specs.Kinds.{is_error, is_na}
-use Rattle.workbook.specs.Evaluation.{World, Answer, Val, Argument, error_answer, with_all, with_inputs, call_answer, function_answer, rtd_answer, added_answer, topic_answer, kind_answer, is_within, own_site}
+use Rattle.workbook.specs.Evaluation.{World, Answer, Val, Argument, error_answer, with_all, with_inputs, call_answer, function_answer, rtd_answer, added_answer, topic_answer, kind_answer, own_site}
 
 -- ---- calls of functions
 -- by whether the count of arguments is right

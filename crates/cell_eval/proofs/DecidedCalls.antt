@@ -21,10 +21,10 @@ use Rattle.functions.specs.declared.arguments.Arg.TheVariants as inputs
 use Rattle.functions.specs.declared.functions.Function.{Function}
 use Rattle.functions.specs.declared.functions.Function.TheVariants as functions
 use Rattle.functions.specs.Applied.{result_of}
-use Rattle.functions.specs.Functions.{arity_of}
+use Rattle.functions.specs.Functions.{arity_of, takes_area, is_within}
 use Rattle.functions.specs.Inputs.{all_ok}
 use Rattle.functions.specs.Kinds.{is_error, is_na}
-use Rattle.workbook.specs.Evaluation.{World, Answer, Val, Argument, error_answer, then_with, with_all, with_input, with_inputs, takes_area, area_input, branch, if_answer, unless_answer, choice_of, chosen_at, choose_answer, function_answer, is_within, topic_answer, known_answer, rtd_answer, accepted_answer, kind_answer, added_answer, call_answer, LONGEST_STRING}
+use Rattle.workbook.specs.Evaluation.{World, Answer, Val, Argument, error_answer, then_with, with_all, with_input, with_inputs, area_input, branch, if_answer, unless_answer, choice_of, chosen_at, choose_answer, function_answer, topic_answer, known_answer, rtd_answer, accepted_answer, kind_answer, added_answer, call_answer, LONGEST_STRING}
 
 -- an argument before the topics are known
 pub record Open : Type 0 where

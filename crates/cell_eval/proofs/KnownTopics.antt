@@ -2,23 +2,15 @@
 use Rattle.std.proofs.Common.{◌≡◌, ℕ, ◌+◌, ◌<◌, ◌≤◌, Bool, true, false, not, ◌&&◌, ◌||◌, cond, List, [], ◌∷◌, ◌++◌, Option, Some, None, is_none, unwrap_or, refl, sym, ap, ◌∙◌, subst, arith}
 use mathlib.Core.Path.{fun_ext}
 use Rattle.std.proofs.lemmas.List.Sums.{sum_by-cons}
-use Rattle.std.proofs.lemmas.Cmp.{and_equiv, on_equiv, lists_equiv, nat_list_eq_equiv}
-use Rattle.std.specs.Cmp.{IsEquivalence}
 use Rattle.std.specs.HashMap.Eq.{lookup_congr}
 use Rattle.std.specs.List.{count_by, list_any}
 use Rattle.std.specs.Map.{lookup}
 use Rattle.cell_values.specs.declared.topics.Topic.{Topic}
 use Rattle.cell_values.specs.declared.values.Value.{Value}
-use Rattle.cell_eval.specs.Jobs.{same_topic, topic_value}
+use Rattle.cell_values.specs.Topic.{same_topic}
+use Rattle.cell_values.proofs.PublicLaws.{same_topics}
+use Rattle.cell_eval.specs.Jobs.{topic_value}
 use Rattle.cell_eval.specs.Resuming.{is_listed}
-
--- topics are the same as an equivalence is
-same_topics : IsEquivalence same_topic
-same_topics = and_equiv (on_equiv (λ (t : Topic). t.server) nat_list_eq_equiv) (on_equiv (λ (t : Topic). t.strings) (lists_equiv nat_list_eq_equiv))
-
--- a topic is the same as itself
-pub same_topic-refl : (topic : Topic) → same_topic topic topic ≡ true
-same_topic-refl = same_topics.refl
 
 -- the same topics have the same value
 value_same : (topics : List (Topic × Value)) (a b : Topic) → same_topic a b ≡ true → topic_value topics a ≡ topic_value topics b

@@ -3,11 +3,11 @@ use Rattle.std.proofs.Common.{◌≡◌, ◌||◌, List, [], ◌∷◌, Option, 
 use Rattle.std.proofs.Math.Bool.{or-true}
 use Rattle.cell_values.specs.declared.topics.Topic.{Topic}
 use Rattle.cell_values.specs.declared.values.Value.{Value}
-use Rattle.cell_eval.specs.Jobs.{same_topic}
+use Rattle.cell_values.specs.Topic.{same_topic}
 use Rattle.cell_eval.specs.Resuming.{AgreesWith, is_listed, answer_knowing, Foretells, AreRead}
 use Rattle.cell_eval.proofs.Deciding.{decides_formula}
 use Rattle.cell_eval.proofs.Decisions.{Known, Decision, Gives, Calls, Looks, looked, run}
-use Rattle.cell_eval.proofs.KnownTopics.{same_topic-refl}
+use Rattle.cell_values.proofs.PublicLaws.{same_topic-refl}
 use Rattle.formula_parse.specs.declared.nodes.Node.{Node}
 use Rattle.workbook.specs.Evaluation.{World, Answer, Val, Asks, Needs}
 

@@ -10,7 +10,8 @@ use Rattle.cell_eval.proofs.Halting.{Halts-same, Halts-then}
 use Rattle.functions.specs.declared.arguments.Arg.{Arg}
 use Rattle.functions.specs.declared.arguments.Arg.TheVariants as inputs
 use Rattle.functions.specs.declared.functions.Function.{Function}
-use Rattle.workbook.specs.Evaluation.{World, Answer, Val, Asks, Needs, Argument, then_with, with_input, with_inputs, takes_area, area_input}
+use Rattle.functions.specs.Functions.{takes_area}
+use Rattle.workbook.specs.Evaluation.{World, Answer, Val, Asks, Needs, Argument, then_with, with_input, with_inputs, area_input}
 
 -- ---- one argument
 -- the values of an area

@@ -1,6 +1,5 @@
 -- What a job says of the world of its formula.
-use Rattle.std.specs.Prelude.{ℕ, Bool, ◌&&◌, nat_eq, List, Option, Some, unwrap_or}
-use Rattle.std.specs.Cmp.Lexicographic.{pointwise}
+use Rattle.std.specs.Prelude.{ℕ, nat_eq, List, Option, Some, unwrap_or}
 use Rattle.std.specs.Map.{lookup}
 use Rattle.std.specs.Str.{bytes_eq}
 use Rattle.addin_types.specs.declared.registrations.Registration.{Registration}
@@ -9,16 +8,13 @@ use Rattle.cell_refs.specs.Cell.{same_cell}
 use Rattle.cell_values.specs.declared.topics.Topic.{Topic}
 use Rattle.cell_values.specs.declared.values.Value.{Value}
 use Rattle.cell_values.specs.declared.values.Value.TheVariants as values
+use Rattle.cell_values.specs.Topic.{same_topic}
 use Rattle.cell_eval.specs.declared.jobs.Job.{Job}
 use Rattle.workbook.specs.Evaluation.{World}
 
 -- the value of a cell: that among the inputs, else Blank
 abbrev pub input_of : List (Cell × Value) → Cell → Value
 input_of inputs cell = unwrap_or (lookup (same_cell cell) inputs) values.Blank
-
--- whether two topics have the same server and the same strings
-abbrev pub same_topic : Topic → Topic → Bool
-same_topic a b = bytes_eq a.server b.server && pointwise bytes_eq a.strings b.strings
 
 -- the value of a topic, where it is among the topics
 abbrev pub topic_value : List (Topic × Value) → Topic → Option Value

@@ -10,7 +10,8 @@ use Rattle.cell_eval.specs.declared.plans.Plan.{Plan}
 use Rattle.cell_eval.specs.declared.plans.Plan.TheVariants as plans
 use Rattle.cell_eval.specs.Jobs.{registration_of}
 use Rattle.functions.specs.Inputs.{all_ok}
-use Rattle.workbook.specs.Evaluation.{World, Answer, error_answer, is_within, topic_answer, kind_answer}
+use Rattle.functions.specs.Functions.{is_within}
+use Rattle.workbook.specs.Evaluation.{World, Answer, error_answer, topic_answer, kind_answer}
 
 -- of a name that is neither a function's nor RTD, by what it was registered with
 abbrev pub plan_of_added : Option Registration → ℕ → Plan

@@ -3,7 +3,7 @@ use Rattle.std.specs.Prelude.{◌≡◌, Bool, true, List, Option, Some, None, I
 use Rattle.std.specs.List.{list_any}
 use Rattle.cell_values.specs.declared.topics.Topic.{Topic}
 use Rattle.cell_values.specs.declared.values.Value.{Value}
-use Rattle.cell_eval.specs.Jobs.{same_topic}
+use Rattle.cell_values.specs.Topic.{same_topic}
 use Rattle.formula_parse.specs.declared.nodes.Node.{Node}
 use Rattle.workbook.specs.Evaluation.{World, Answer, Val, Asks, Needs, answer_of}
 

@@ -13,8 +13,8 @@ use Rattle.formula_parse.specs.declared.operators.Operator.{Operator}
 use Rattle.formula_parse.specs.Tree.{areas_named, site_count}
 use Rattle.functions.specs.declared.arguments.Arg.{Arg}
 use Rattle.functions.specs.declared.functions.Function.{Function}
-use Rattle.functions.specs.Functions.{function_named}
-use Rattle.workbook.specs.Evaluation.{World, Answer, Val, Asks, Needs, Argument, part_of, arguments_of, answers_of, with_all, with_input, with_inputs, takes_area, chain_value, operation_of, call_answer, if_answer, unless_answer, choose_answer, own_site}
+use Rattle.functions.specs.Functions.{function_named, takes_area}
+use Rattle.workbook.specs.Evaluation.{World, Answer, Val, Asks, Needs, Argument, part_of, arguments_of, answers_of, with_all, with_input, with_inputs, chain_value, operation_of, call_answer, if_answer, unless_answer, choose_answer, own_site}
 
 -- the answer of a part of a tree behind so many sites
 unfoldable pub answer_at : World → Node → ℕ → Answer

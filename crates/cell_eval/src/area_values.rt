@@ -4,14 +4,14 @@ ghost use Rattle.std.specs.Map.{keys_of};
 ghost use Rattle.std.specs.Ordering.{is_lt};
 ghost use Rattle.cell_refs.specs.Area.{cells_of, size_of};
 ghost use Rattle.cell_refs.specs.Cell.{cell_cmp};
-ghost use Rattle.workbook.specs.Evaluation.{World, area_input, takes_area};
+ghost use Rattle.functions.specs.Functions.{takes_area};
+ghost use Rattle.workbook.specs.Evaluation.{World, area_input};
 ghost use Rattle.functions.specs.Inputs.{IsInput};
 ghost use Rattle.formula_parse.specs.Tree.{site_count};
 ghost use Rattle.cell_eval.specs.Jobs.{input_of};
 ghost use Rattle.cell_eval.specs.Inputs.{from_cell, head_value};
 ghost use Rattle.cell_eval.specs.Steps.{NamesSmallAreas, area_at, taken_area};
 
-use super::operations::takes_area;
 use cell_refs::{Area, Cell};
 use cell_values::{Memory, Value};
 use formula_parse::Node;
@@ -44,7 +44,7 @@ pub fn area_taken(function: Function, place: usize, node: &Node, home: u8) -> Op
     ensures formed { MatchOption result ⊤ (λ area. (area.top ≤ area.bottom)
         × (area.left ≤ area.right)) }
 {
-    if takes_area(function, place) {
+    if function.takes_area(place) {
         area_in(node, home)
     } else {
         None

@@ -9,7 +9,7 @@ ghost use Rattle.cell_eval.specs.Steps.{NamesSmallAreas, ComesTo, GiveAll, HaltA
 use super::area_values::{area_argument, area_taken, input_value};
 use super::halts::Halt;
 use super::jobs::Job;
-use super::operations::{Errors, combined, finished, is_such, negated, place_of, takes_count};
+use super::operations::{Errors, combined, finished, is_such, negated, place_of};
 use super::plans::{Plan, plan_of, planned_value};
 use super::sites::{pass, pass_all};
 use addin_types::AddIns;
@@ -169,7 +169,7 @@ fn built_in<F: AddIns>(
         (built_in_at (world_of F.answer job.now) function arguments.now sites.old) result }
     ensures sites { OnOk result (sites.new ≡ sites.old + sites_among arguments.now) }
 {
-    if !takes_count(function, arguments.len()) {
+    if !function.takes_count(arguments.len()) {
         pass_all(arguments, sites);
         return Ok(Value::Error(ErrorKind::Value));
     }

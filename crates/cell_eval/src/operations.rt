@@ -2,12 +2,10 @@ ghost use Rattle.std.specs.Prelude.{◌≡◌, IfOk};
 ghost use Rattle.cell_values.specs.Value.{final_of};
 ghost use Rattle.cell_eval.specs.Errors.{is_such};
 ghost use Rattle.cell_eval.specs.Steps.{combination_of, place_of};
-ghost use Rattle.workbook.specs.Evaluation.{is_within, operation_of, repeated_negation, takes_area};
-ghost use Rattle.functions.specs.Functions.{arity_of};
+ghost use Rattle.workbook.specs.Evaluation.{operation_of, repeated_negation};
 
 use cell_values::{ErrorKind, Memory, Value, add, compare, div, join, mul, negate, sub};
 use formula_parse::Operator;
-use functions::Function;
 use std::alloc::Global;
 
 /// An operator between two values.
@@ -76,32 +74,6 @@ pub fn is_such(errors: Errors, value: &Value) -> bool
     match errors {
         Errors::All => matches!(value, Value::Error(_)),
         Errors::NotAvailable => matches!(value, Value::Error(ErrorKind::Na)),
-    }
-}
-
-/// Whether a function takes so many arguments.
-pub fn takes_count(function: Function, count: usize) -> bool
-    ensures { result ≡ is_within (arity_of function) count }
-{
-    let (least, most) = function.arity();
-    usize::from(least) <= count && count <= usize::from(most)
-}
-
-/// Whether a function takes the values of the area that its argument at this place refers to.
-pub fn takes_area(function: Function, place: usize) -> bool
-    ensures { result ≡ takes_area function place }
-{
-    match function {
-        Function::Sum
-        | Function::Product
-        | Function::Min
-        | Function::Max
-        | Function::Count
-        | Function::CountA
-        | Function::And
-        | Function::Or => true,
-        Function::Index => place == 0,
-        _ => false,
     }
 }
 

@@ -1,6 +1,6 @@
 -- Areas: the cells between two corners.
 use Rattle.std.specs.Prelude.{◌≡◌, ◌==◌, ◌&&◌, nat_le, Bool, ℕ, ◌+◌, ◌-◌, ◌*◌, ◌≤◌, List, ◌++◌, map, flat_map, min, max, unwrap_or}
-use Rattle.std.specs.List.{range_with_len}
+use Rattle.std.specs.List.{list_any, range_with_len}
 use Rattle.cell_refs.specs.declared.areas.Area.{Area}
 use Rattle.cell_refs.specs.declared.grid.Cell.{Cell}
 use Rattle.cell_refs.specs.declared.references.RefText.{RefText}
@@ -28,6 +28,10 @@ area_has area cell =
     && (nat_le area.top cell.row
     && (nat_le cell.row area.bottom
     && (nat_le area.left cell.col && nat_le cell.col area.right)))
+
+-- whether a cell lies in one of the areas
+abbrev pub lies_in : List Area → Cell → Bool
+lies_in areas cell = list_any (λ area. area_has area cell) areas
 
 -- the number of an area's cells
 abbrev pub size_of : Area → ℕ

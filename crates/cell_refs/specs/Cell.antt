@@ -1,8 +1,9 @@
 -- Cells and their order.
-use Rattle.std.specs.Prelude.{ℕ, Bool, ◌≤◌, refl}
+use Rattle.std.specs.Prelude.{ℕ, Bool, ◌≤◌, List, refl}
 use Rattle.std.specs.declared.cmp.Ordering.{Ordering}
 use Rattle.std.specs.Ordering.{nat_cmp, ordering_then, is_eq}
 use Rattle.std.specs.Cmp.{IsTotalOrder, nat_cmp_total, on_total, then_total}
+use Rattle.std.specs.List.{list_any}
 use Rattle.std.specs.Coded.{Coded, code_by, coded×, coded_ℕ}
 use Rattle.cell_refs.specs.declared.grid.Cell.{Cell}
 
@@ -25,6 +26,10 @@ cells_total =
 -- whether two cells are one
 abbrev pub same_cell : Cell → Cell → Bool
 same_cell a b = is_eq (cell_cmp a b)
+
+-- whether a cell is among those
+abbrev pub is_among : List Cell → Cell → Bool
+is_among cells cell = list_any (same_cell cell) cells
 
 -- a cell as three numbers
 abbrev pub coded_cell : Coded Cell

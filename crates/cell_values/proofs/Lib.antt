@@ -4,5 +4,6 @@ mod DigitFacts
 mod OperatorLaws
 mod Readings
 mod TextFacts
+mod TopicLaws
 mod WordLaws
 pub mod PublicLaws

@@ -6,5 +6,6 @@ pub mod Error
 pub mod Name
 pub mod Text
 pub mod TextFault
+pub mod Topic
 pub mod Value
 pub mod Word

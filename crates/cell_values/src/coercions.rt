@@ -4,7 +4,8 @@ ghost use Rattle.cell_values.specs.Value.{number_of};
 ghost use Rattle.cell_values.specs.Coercion.{truth_of, truth_of_text, text_of, join_of, text_join_of};
 
 use super::digits::{signed, trim_spaces};
-use super::errors::{ErrorKind, Memory};
+use super::errors::ErrorKind;
+use super::memory::Memory;
 use super::texts::Text;
 use super::values::Value;
 use itoa::Buffer;
@@ -64,10 +65,7 @@ pub fn to_text(alloc: Global, v: &Value) -> Result<Result<Text, ErrorKind>, Memo
         Value::Error(kind) => return Ok(Err(*kind)),
         Value::Blank => Text::known(alloc, ""),
     };
-    match text {
-        Ok(text) => Ok(Ok(text)),
-        Err(refused) => Err(refused),
-    }
+    Ok(Ok(text?))
 }
 
 /// The decimals of a number.
@@ -92,9 +90,8 @@ pub fn join(alloc: Global, a: &Value, b: &Value) -> Result<Value, Memory>
 fn join_texts(alloc: Global, s: &Text, t: &Text) -> Result<Value, Memory>
     ensures { IfOk result (λ value. value ≡ text_join_of s.now t.now) }
 {
-    match s.followed_by(alloc, t) {
-        Ok(Some(both)) => Ok(Value::Text(both)),
-        Ok(None) => Ok(Value::Error(ErrorKind::Value)),
-        Err(refused) => Err(refused),
+    match s.followed_by(alloc, t)? {
+        Some(both) => Ok(Value::Text(both)),
+        None => Ok(Value::Error(ErrorKind::Value)),
     }
 }

@@ -1,6 +1,8 @@
 ghost use Rattle.std.specs.Prelude.{◌≡◌, ◌≤◌, pos, unsigned_abs, IfSome};
+ghost use Rattle.std.specs.Char.{is_ascii_digit};
+ghost use Rattle.std.specs.List.{list_all};
 ghost use Rattle.std.specs.Option.{option_map};
-ghost use Rattle.cell_values.specs.Digits.{whole_number, below_zero, signed_number, after_spaces, without_outer_spaces};
+ghost use Rattle.cell_values.specs.Digits.{whole_number, below_zero, are_digits, has_number_form, number_of_digits, signed_number, after_spaces, without_outer_spaces};
 ghost use Rattle.cell_values.specs.Word.{number_word};
 
 /// The greatest magnitude of a number.
@@ -49,15 +51,55 @@ fn negative(digits: &[u8]) -> Option<i64>
     }
 }
 
+/// Whether bytes are one or more decimal digits.
+fn are_digits(bytes: &[u8]) -> bool
+    ensures { result ≡ are_digits bytes.now }
+{
+    match bytes {
+        [] => false,
+        [_, ..] => all_digits(bytes),
+    }
+}
+
+/// Whether each byte is a decimal digit.
+fn all_digits(bytes: &[u8]) -> bool
+    ensures { result ≡ list_all is_ascii_digit bytes.now }
+{
+    bytes.iter().all(|byte| byte.is_ascii_digit())
+}
+
+/// Whether bytes have the form of a number: an optional `-` and digits, with leading zeros or without.
+pub fn has_number_form(bytes: &[u8]) -> bool
+    ensures { result ≡ has_number_form bytes.now }
+{
+    match bytes {
+        [] => false,
+        [b'-', digits @ ..] => are_digits(digits),
+        digits => are_digits(digits),
+    }
+}
+
+/// The number of bytes that have the form of a number. None where they have another form, or the number is beyond the
+/// magnitude.
+pub fn read_digits(bytes: &[u8]) -> Option<i64>
+    ensures number { result ≡ number_of_digits bytes.now }
+    ensures bound { IfSome result (λ n. unsigned_abs n ≤ LARGEST_NUMBER) }
+{
+    match bytes {
+        [] => None,
+        [b'-', digits @ ..] => negative(digits),
+        digits => positive(digits),
+    }
+}
+
 /// The number of digits, or of a sign and digits.
 pub fn signed(bytes: &[u8]) -> Option<i64>
     ensures { result ≡ signed_number bytes.now }
 {
     match bytes {
         [] => None,
-        [b'-', digits @ ..] => negative(digits),
         [b'+', digits @ ..] => positive(digits),
-        digits => positive(digits),
+        digits => read_digits(digits),
     }
 }
 

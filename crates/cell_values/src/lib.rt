@@ -6,6 +6,7 @@ mod comparison;
 mod digits;
 mod errors;
 mod events;
+mod memory;
 mod names;
 mod operators;
 #[cfg(test)]
@@ -17,9 +18,10 @@ mod words;
 
 pub use coercions::{join, to_bool, to_number, to_text};
 pub use comparison::{CompareOp, compare};
-pub use digits::{LARGEST_NUMBER, read_number_word};
-pub use errors::{ErrorKind, Memory};
+pub use digits::{LARGEST_NUMBER, has_number_form, read_digits, read_number_word};
+pub use errors::ErrorKind;
 pub use events::Event;
+pub use memory::Memory;
 pub use names::{Name, NameFault};
 pub use operators::{add, div, mul, negate, sub};
 pub use texts::{Text, TextFault};

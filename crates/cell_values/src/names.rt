@@ -5,7 +5,7 @@ ghost use Rattle.std.specs.Cmp.Lexicographic.{pointwise, slice_cmp, nat_list_eq_
 ghost use Rattle.std.specs.List.{list_all};
 ghost use Rattle.cell_values.specs.Name.{is_name, is_name_byte};
 
-use super::errors::Memory;
+use super::memory::Memory;
 use std::alloc::Global;
 use std::cmp::Ordering;
 use std::marker::Model;
@@ -68,10 +68,8 @@ impl Name {
     pub fn copy(&self) -> Result<Name, Memory>
         ensures { IfOk result (λ copy. copy ≡ self.now) }
     {
-        match self.shared.clone() {
-            Ok(shared) => Ok(Name { shared }),
-            Err(_) => Err(Memory),
-        }
+        let shared = self.shared.clone()?;
+        Ok(Name { shared })
     }
 }
 

@@ -5,7 +5,7 @@ ghost use Rattle.std.specs.Char.{is_ascii_control};
 ghost use Rattle.std.specs.Str.{chars};
 ghost use Rattle.std.specs.String.{string_bytes};
 
-use super::errors::Memory;
+use super::memory::Memory;
 use std::alloc::{AllocError, Global};
 use std::marker::Model;
 use std::sync::ArcStr;
@@ -75,10 +75,8 @@ impl Text {
     pub fn copy(&self) -> Result<Text, Memory>
         ensures { IfOk result (λ copy. copy ≡ self.now) }
     {
-        match self.shared.clone() {
-            Ok(shared) => Ok(Text { shared }),
-            Err(_) => Err(Memory),
-        }
+        let shared = self.shared.clone()?;
+        Ok(Text { shared })
     }
 }
 
@@ -104,27 +102,20 @@ impl Text {
         requires { IsTrue (is_text s.now) }
         ensures { IfOk result (λ text. text ≡ s.now) }
     {
-        match ArcStr::from_str(alloc, s) {
-            Ok(shared) => Ok(Text { shared }),
-            Err(_) => Err(Memory),
-        }
+        let shared = ArcStr::from_str(alloc, s)?;
+        Ok(Text { shared })
     }
 
     /// The text followed by another; None where both together are too long.
     pub(crate) fn followed_by(&self, alloc: Global, other: &Text) -> Result<Option<Text>, Memory>
         ensures { IfOk result (λ both. both ≡ if_short (self.now ++ other.now)) }
     {
-        let both = match joined(alloc, self.as_str(), other.as_str()) {
-            Ok(both) => both,
-            Err(_) => return Err(Memory),
-        };
+        let both = joined(alloc, self.as_str(), other.as_str())?;
         if count_characters(both.as_str()) > CHARACTER_LIMIT {
             return Ok(None);
         }
-        match ArcStr::from_string(both) {
-            Ok(shared) => Ok(Some(Text { shared })),
-            Err(_) => Err(Memory),
-        }
+        let shared = ArcStr::from_string(both)?;
+        Ok(Some(Text { shared }))
     }
 }
 

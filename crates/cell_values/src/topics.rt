@@ -2,7 +2,7 @@ ghost use Rattle.std.specs.Prelude.{◌≡◌, IfOk, nat_eq};
 ghost use Rattle.std.specs.Cmp.{partial_equiv_from_equiv};
 ghost use Rattle.std.specs.Cmp.Lexicographic.{pointwise, lists_equiv, nat_list_eq_equiv};
 
-use super::errors::Memory;
+use super::memory::Memory;
 use super::names::Name;
 use super::texts::Text;
 use std::marker::Model;
@@ -28,10 +28,8 @@ impl Texts {
     pub fn new(texts: Vec<Text>) -> Result<Texts, Memory>
         ensures { IfOk result (λ list. list ≡ texts.items) }
     {
-        match ArcSlice::from_vec(texts) {
-            Ok(shared) => Ok(Texts { shared }),
-            Err(_) => Err(Memory),
-        }
+        let shared = ArcSlice::from_vec(texts)?;
+        Ok(Texts { shared })
     }
 
     /// The texts.
@@ -45,10 +43,8 @@ impl Texts {
     pub fn copy(&self) -> Result<Texts, Memory>
         ensures { IfOk result (λ copy. copy ≡ self.now) }
     {
-        match self.shared.clone() {
-            Ok(shared) => Ok(Texts { shared }),
-            Err(_) => Err(Memory),
-        }
+        let shared = self.shared.clone()?;
+        Ok(Texts { shared })
     }
 }
 

@@ -1,6 +1,8 @@
 ghost use Rattle.std.specs.Prelude.{◌≡◌, IfOk};
+ghost use Rattle.cell_values.specs.Value.{final_of};
 
-use super::errors::{ErrorKind, Memory};
+use super::errors::ErrorKind;
+use super::memory::Memory;
 use super::texts::Text;
 
 /// The value of a cell or of a part of a formula. A number's magnitude is at most 999,999,999,999,999.
@@ -20,13 +22,20 @@ impl Value {
     {
         match self {
             Value::Num(n) => Ok(Value::Num(*n)),
-            Value::Text(text) => match text.copy() {
-                Ok(text) => Ok(Value::Text(text)),
-                Err(refused) => Err(refused),
-            },
+            Value::Text(text) => Ok(Value::Text(text.copy()?)),
             Value::Bool(b) => Ok(Value::Bool(*b)),
             Value::Error(kind) => Ok(Value::Error(*kind)),
             Value::Blank => Ok(Value::Blank),
+        }
+    }
+
+    /// What a cell shows of a formula's value: a Blank becomes 0.
+    pub fn or_zero(self) -> Value
+        ensures { result ≡ final_of self }
+    {
+        match self {
+            Value::Blank => Value::Num(0),
+            other => other,
         }
     }
 }

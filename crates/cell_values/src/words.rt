@@ -2,7 +2,8 @@ ghost use Rattle.std.specs.Prelude.{◌≡◌, ◌++◌, length, take, Some, Non
 ghost use Rattle.cell_values.specs.Word.{value_text, value_of_word, HasWord, quotation_of, byte_within, before_closing_quote, text_word, text_of_bytes, bool_word, kind_of_word};
 
 use super::digits::read_number_word;
-use super::errors::{ErrorKind, Memory};
+use super::errors::ErrorKind;
+use super::memory::Memory;
 use super::texts::{Text, TextFault};
 use super::values::Value;
 use itoa::Buffer;
@@ -49,10 +50,8 @@ fn append(out: &mut Vec<u8>, bytes: &[u8]) -> Result<(), Memory>
     ensures ok { OnOk result (out.new.items ≡ out.old.items ++ bytes.now) }
     ensures err { OnErr result (out.new.items ≡ out.old.items) }
 {
-    match out.extend_from_slice(bytes) {
-        Ok(()) => Ok(()),
-        Err(_) => Err(Memory),
-    }
+    out.extend_from_slice(bytes)?;
+    Ok(())
 }
 
 /// Appends a text between quotes, with each quote in it doubled.

@@ -11,7 +11,7 @@ use lib.Utf8.{encodes, scalar}
 use Rattle.cell_values.specs.Text.{is_text, if_short}
 use Rattle.cell_values.specs.TextFault.{IsFaultOf}
 use Rattle.cell_values.specs.Word.{text_of_bytes}
-use Rattle.cell_values.specs.declared.errors.Memory.{Memory}
+use Rattle.cell_values.specs.declared.memory.Memory.{Memory}
 use Rattle.cell_values.specs.declared.texts.TextFault.{TextFault}
 use Rattle.cell_values.specs.declared.texts.TextFault.TheVariants.{TooLong, Control}
 use Rattle.cell_values.specs.declared.values.Value.{Value}

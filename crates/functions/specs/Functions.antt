@@ -1,5 +1,5 @@
--- The functions: their names and their counts of arguments.
-use Rattle.std.specs.Prelude.{ℕ, List, [], ◌∷◌, Option, codes}
+-- The functions: their names, their counts of arguments, and which areas they take.
+use Rattle.std.specs.Prelude.{ℕ, Bool, true, false, ◌&&◌, ◌==◌, nat_le, List, [], ◌∷◌, Option, codes}
 use Rattle.std.specs.List.{find}
 use Rattle.std.specs.Str.{bytes_eq}
 use Rattle.functions.specs.declared.functions.Function.{Function}
@@ -99,3 +99,24 @@ arity_of functions.Find = (2, 3)
 arity_of functions.Rept = (2, 2)
 arity_of functions.Trim = (1, 1)
 arity_of functions.Value = (1, 1)
+
+-- whether a count is within an arity
+abbrev pub is_within : ℕ × ℕ → ℕ → Bool
+is_within arity count = nat_le arity.0 count && nat_le count arity.1
+
+-- whether a function takes so many arguments
+abbrev pub takes_count : Function → ℕ → Bool
+takes_count f count = is_within (arity_of f) count
+
+-- whether a function takes the values of the area that its argument at this place refers to
+abbrev pub takes_area : Function → ℕ → Bool
+takes_area functions.Sum place = true
+takes_area functions.Product place = true
+takes_area functions.Min place = true
+takes_area functions.Max place = true
+takes_area functions.Count place = true
+takes_area functions.CountA place = true
+takes_area functions.And place = true
+takes_area functions.Or place = true
+takes_area functions.Index place = place == 0
+takes_area other place = false

@@ -6,23 +6,14 @@ ghost use Rattle.functions.specs.Areas.{cell_at, area_cell, cell_of, index_of};
 use super::arguments::{Arg, number_at};
 use cell_values::{ErrorKind, Memory, Value};
 
-/// A value as an answer, which a Blank isn't.
-fn answered(value: &Value) -> Result<Value, Memory>
-    ensures { IfOk result (λ answer. answer ≡ final_of value.now) }
-{
-    match value {
-        Value::Blank => Ok(Value::Num(0)),
-        value => value.copy(),
-    }
-}
-
 /// The value at a row and a column, counted from 0.
 fn answer_at(columns: usize, values: &[Value], row: usize, column: usize) -> Result<Value, Memory>
     requires row { row < length values.now / columns }
     requires column { column < columns }
     ensures { IfOk result (λ answer. answer ≡ final_of (cell_at columns values.now row column)) }
 {
-    answered(&values[row * columns + column])
+    let value = values[row * columns + column].copy()?;
+    Ok(value.or_zero())
 }
 
 /// The value at a row and a column, counted from 1.

@@ -93,7 +93,7 @@ static ALL: [Function; 40] = [
 
 impl Function {
     ghost use Rattle.std.specs.Prelude.{◌≡◌};
-    ghost use Rattle.functions.specs.Functions.{word_of, function_named, arity_of};
+    ghost use Rattle.functions.specs.Functions.{word_of, function_named, arity_of, takes_area, takes_count};
 
     /// The function of this name.
     pub fn of(name: &str) -> Option<Function>
@@ -190,6 +190,32 @@ impl Function {
             Function::Choose => (2, 255),
             Function::Index | Function::Mid => (3, 3),
             Function::Left | Function::Right => (1, 2),
+        }
+    }
+
+    /// Whether the function takes so many arguments.
+    pub fn takes_count(self, count: usize) -> bool
+        ensures { result ≡ takes_count self count }
+    {
+        let (least, most) = self.arity();
+        usize::from(least) <= count && count <= usize::from(most)
+    }
+
+    /// Whether the function takes the values of the area that its argument at this place refers to, counted from 0.
+    pub fn takes_area(self, place: usize) -> bool
+        ensures { result ≡ takes_area self place }
+    {
+        match self {
+            Function::Sum
+            | Function::Product
+            | Function::Min
+            | Function::Max
+            | Function::Count
+            | Function::CountA
+            | Function::And
+            | Function::Or => true,
+            Function::Index => place == 0,
+            _ => false,
         }
     }
 }

@@ -7,9 +7,8 @@ use Rattle.std.proofs.lemmas.List.Elements.{Contains-append_cases, Contains-appe
 use Rattle.std.proofs.lemmas.List.Folds.{list_all_at}
 use Rattle.cell_refs.specs.declared.areas.Area.{Area}
 use Rattle.cell_refs.specs.declared.grid.Cell.{Cell}
-use Rattle.cell_refs.specs.Area.{IsInside, area_has, cells_of}
+use Rattle.cell_refs.specs.Area.{IsInside, area_has, cells_of, lies_in}
 use Rattle.cell_refs.proofs.PublicLaws.{listed_inside, inside_listed}
-use Rattle.rtdhost.specs.Scanning.{lies_in}
 use Rattle.rtdhost.proofs.AreaOrder.{is_inside}
 
 -- the test of an area finds every cell between its corners

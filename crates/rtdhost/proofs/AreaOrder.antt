@@ -5,8 +5,8 @@ use Rattle.std.proofs.lemmas.Bool.{or_cases}
 use Rattle.std.proofs.lemmas.Bool.Decides.{nat_tests}
 use Rattle.cell_refs.specs.declared.areas.Area.{Area}
 use Rattle.cell_refs.specs.declared.grid.Cell.{Cell}
-use Rattle.cell_refs.specs.Area.{IsInside, area_has}
-use Rattle.rtdhost.specs.Scanning.{IsNext, corner, is_less, lies_in}
+use Rattle.cell_refs.specs.Area.{IsInside, area_has, lies_in}
+use Rattle.rtdhost.specs.Scanning.{IsNext, corner, is_less}
 
 -- whether a sheet, a row and a column stand before three others
 abbrev triple_less : ℕ → ℕ → ℕ → ℕ → ℕ → ℕ → Bool

@@ -6,8 +6,8 @@ use Rattle.std.proofs.lemmas.List.{take_all}
 use Rattle.std.proofs.lemmas.List.Folds.{list_any_more}
 use Rattle.cell_refs.specs.declared.areas.Area.{Area}
 use Rattle.cell_refs.specs.declared.grid.Cell.{Cell}
-use Rattle.cell_refs.specs.Area.{area_has}
-use Rattle.rtdhost.specs.Scanning.{IsFirst, IsNext, corner, is_before, is_less, lesser, lies_in}
+use Rattle.cell_refs.specs.Area.{area_has, lies_in}
+use Rattle.rtdhost.specs.Scanning.{IsFirst, IsNext, corner, is_before, is_less, lesser}
 use Rattle.rtdhost.proofs.CellsInOrder.{less-one_way, less-upto}
 use Rattle.rtdhost.proofs.AreaOrder.{corner-first}
 use Rattle.rtdhost.proofs.ScanLaws.{before-itself, before-later, first-before}

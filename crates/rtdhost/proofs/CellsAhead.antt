@@ -11,8 +11,7 @@ use Rattle.std.proofs.lemmas.Map.Entries.{lookup-filter-keys}
 use Rattle.cell_refs.specs.declared.areas.Area.{Area}
 use Rattle.cell_refs.specs.declared.grid.Cell.{Cell}
 use Rattle.cell_refs.specs.Cell.{cell_cmp, same_cell}
-use Rattle.cell_refs.proofs.PublicLaws.{cells_total, exact_cells}
-use Rattle.workbook.proofs.PublicLaws.{same_cell_is}
+use Rattle.cell_refs.proofs.PublicLaws.{cells_total, exact_cells, same_cell_is}
 use Rattle.workbook.specs.declared.contents.Content.{Content}
 use Rattle.workbook.specs.Book.{IsInOrder, content_at, cells_from}
 use Rattle.rtdhost.specs.Inputs.{steps_ahead}

@@ -12,14 +12,14 @@ use Rattle.std.proofs.lemmas.Bool.{and_parts, and_from, true≢false}
 use Rattle.std.proofs.lemmas.List.Sums.{sum_by-cons}
 use Rattle.std.proofs.lemmas.Map.Keys.{sorted_head, sorted_tail}
 use Rattle.cell_refs.specs.declared.grid.Cell.{Cell}
-use Rattle.cell_refs.specs.Cell.{cell_cmp, same_cell}
-use Rattle.cell_refs.proofs.PublicLaws.{exact_cells, cells_total}
+use Rattle.cell_refs.specs.Cell.{cell_cmp, same_cell, is_among}
+use Rattle.cell_refs.proofs.PublicLaws.{exact_cells, cells_total, same_cell_is, same_cells}
 use Rattle.cell_values.specs.declared.values.Value.{Value}
 use Rattle.workbook.specs.declared.contents.Content.{Content}
 use Rattle.workbook.specs.Book.{IsInOrder, content_at, has_formula, is_formula, formula_cells, formula_count, exceeds_cells, exceeds_formulas}
 use Rattle.workbook.specs.Meaning.{meaning, shown_value, sheet_of}
-use Rattle.workbook.specs.Stale.{is_among, is_stale, reaches, stale_count}
-use Rattle.workbook.proofs.PublicLaws.{same_cell_is, same_cells, own_content, meaning-kept_clean, reaches-among, formula_cells-has, any_alike, or_false}
+use Rattle.workbook.specs.Stale.{is_stale, reaches, stale_count}
+use Rattle.workbook.proofs.PublicLaws.{own_content, meaning-kept_clean, reaches-among, formula_cells-has, any_alike, or_false}
 use Rattle.workbook.specs.declared.commands.Command.{Command}
 use Rattle.workbook.specs.declared.commands.Command.TheVariants as commands
 use Rattle.workbook.specs.declared.replies.Reply.TheVariants as replies

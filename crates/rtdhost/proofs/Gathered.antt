@@ -12,13 +12,14 @@ use Rattle.cell_refs.specs.Cell.{cell_cmp, same_cell}
 use Rattle.cell_values.specs.declared.values.Value.{Value}
 use Rattle.cell_values.specs.declared.values.Value.TheVariants.{Blank}
 use Rattle.cell_eval.specs.Jobs.{input_of}
-use Rattle.workbook.proofs.PublicLaws.{same_cell_is, same_cells}
+use Rattle.cell_refs.proofs.PublicLaws.{same_cell_is, same_cells}
 use Rattle.workbook.specs.declared.contents.Content.{Content}
 use Rattle.workbook.specs.Book.{IsInOrder, cells_from, content_at}
 use Rattle.rtdhost.specs.declared.gathering.Step.{Step}
 use Rattle.rtdhost.specs.declared.gathering.Step.TheVariants as steps
 use Rattle.rtdhost.specs.Inputs.{AreGathered, AreInputs, IsStep, known_content, known_formula, known_input, steps_ahead}
-use Rattle.rtdhost.specs.Scanning.{IsFirst, IsNext, is_before, is_less, lies_in}
+use Rattle.cell_refs.specs.Area.{lies_in}
+use Rattle.rtdhost.specs.Scanning.{IsFirst, IsNext, is_before, is_less}
 use Rattle.rtdhost.proofs.AreaCells.{along_areas, fails_among}
 use Rattle.rtdhost.proofs.CellsAhead.{all-from, at_key, at_least, below_is, content-from, found_later, found_where, from-in-order, less_differs, less_then_at_least, less_then_less, skipped, steps-end, steps-fall}
 

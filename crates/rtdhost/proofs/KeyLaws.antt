@@ -7,10 +7,10 @@ use Rattle.std.specs.Ordering.{is_gt}
 use Rattle.std.proofs.lemmas.Bool.{or_cases, or_from, or_left, or_right}
 use Rattle.cell_refs.specs.declared.areas.Area.{Area}
 use Rattle.cell_refs.specs.declared.grid.Cell.{Cell}
-use Rattle.cell_refs.specs.Cell.{cell_cmp, same_cell}
-use Rattle.workbook.specs.Stale.{is_among}
-use Rattle.workbook.proofs.PublicLaws.{same_cell_is, same_cells}
-use Rattle.rtdhost.specs.Scanning.{IsLeastFrom, is_before, is_less, lies_in}
+use Rattle.cell_refs.specs.Cell.{cell_cmp, same_cell, is_among}
+use Rattle.cell_refs.proofs.PublicLaws.{same_cell_is, same_cells}
+use Rattle.cell_refs.specs.Area.{lies_in}
+use Rattle.rtdhost.specs.Scanning.{IsLeastFrom, is_before, is_less}
 use Rattle.rtdhost.proofs.CellsInOrder.{turned}
 
 -- a test that no key passes

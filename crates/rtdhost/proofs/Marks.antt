@@ -4,11 +4,12 @@ use Rattle.std.specs.List.{list_any, slice_index_or}
 use Rattle.std.proofs.lemmas.Bool.{or_cases, and_parts, and_from}
 use Rattle.std.proofs.lemmas.List.Folds.{list_any_more, list_any_at}
 use Rattle.cell_refs.specs.declared.grid.Cell.{Cell}
-use Rattle.cell_refs.specs.Cell.{same_cell}
-use Rattle.workbook.proofs.PublicLaws.{same_cell_is, same_cells, any_leads, or_left, reaches-among, reaches-enough, reaches-constant, formula_cells-has, formula_cells-count}
+use Rattle.cell_refs.specs.Cell.{same_cell, is_among}
+use Rattle.cell_refs.proofs.PublicLaws.{same_cell_is, same_cells}
+use Rattle.workbook.proofs.PublicLaws.{any_leads, or_left, reaches-among, reaches-enough, reaches-constant, formula_cells-has, formula_cells-count}
 use Rattle.workbook.specs.declared.contents.Content.{Content}
 use Rattle.workbook.specs.Book.{IsInOrder, cell_precedents, is_formula, formula_cells, formula_count}
-use Rattle.workbook.specs.Stale.{is_among, is_stale, reaches}
+use Rattle.workbook.specs.Stale.{is_stale, reaches}
 use Rattle.std.specs.Cmp.{both_ways}
 use Rattle.rtdhost.specs.Marking.{is_hot, is_touched, KeepsMarks, MarksTouched, IsMarkedOrNew, AreStale, AreFormulas, AddsCell}
 

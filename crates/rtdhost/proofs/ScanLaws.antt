@@ -6,8 +6,9 @@ use Rattle.std.proofs.lemmas.List.Sums.{sum_by-cons}
 use Rattle.cell_refs.specs.declared.areas.Area.{Area}
 use Rattle.cell_refs.specs.declared.grid.Cell.{Cell}
 use Rattle.cell_refs.specs.Cell.{same_cell}
-use Rattle.workbook.proofs.PublicLaws.{same_cell_is}
-use Rattle.rtdhost.specs.Scanning.{IsFirst, IsNext, IsLeastFrom, is_before, is_less, lies_in}
+use Rattle.cell_refs.proofs.PublicLaws.{same_cell_is}
+use Rattle.cell_refs.specs.Area.{lies_in}
+use Rattle.rtdhost.specs.Scanning.{IsFirst, IsNext, IsLeastFrom, is_before, is_less}
 use Rattle.rtdhost.proofs.CellsInOrder.{apart-less, less-one_way, less-upto}
 
 -- a test doesn't both pass and fail

@@ -6,12 +6,11 @@ use Rattle.std.proofs.lemmas.Bool.{or_cases, or_left, or_right}
 use Rattle.std.proofs.lemmas.Map.Views.{Contains-from_any, list_any-from_Contains}
 use Rattle.cell_refs.specs.declared.areas.Area.{Area}
 use Rattle.cell_refs.specs.declared.grid.Cell.{Cell}
-use Rattle.cell_refs.specs.Area.{cells_of}
-use Rattle.cell_refs.specs.Cell.{same_cell}
-use Rattle.workbook.specs.Stale.{is_among}
-use Rattle.workbook.proofs.PublicLaws.{same_cell_is, same_cells, any_alike}
+use Rattle.cell_refs.specs.Area.{cells_of, lies_in}
+use Rattle.cell_refs.specs.Cell.{same_cell, is_among}
+use Rattle.cell_refs.proofs.PublicLaws.{same_cell_is, same_cells}
+use Rattle.workbook.proofs.PublicLaws.{any_alike}
 use Rattle.rtdhost.specs.Marking.{is_hot}
-use Rattle.rtdhost.specs.Scanning.{lies_in}
 use Rattle.rtdhost.proofs.AreaCells.{lies_listed, listed_lies}
 use Rattle.rtdhost.proofs.KeyLaws.{some-key}
 

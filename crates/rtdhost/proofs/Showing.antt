@@ -6,16 +6,15 @@ use Rattle.std.specs.Option.{option_map}
 use Rattle.std.proofs.lemmas.Bool.{or_cases, true≢false}
 use Rattle.std.proofs.lemmas.List.Folds.{list_any_more}
 use Rattle.cell_refs.specs.declared.grid.Cell.{Cell}
-use Rattle.cell_refs.specs.Cell.{same_cell}
+use Rattle.cell_refs.specs.Cell.{same_cell, is_among}
 use Rattle.cell_values.specs.declared.values.Value.{Value}
 use Rattle.cell_values.specs.declared.values.Value.TheVariants.{Num as Number', Text as Text', Bool as Bool', Error as Error'}
 use Rattle.workbook.specs.declared.contents.Content.{Content}
 use Rattle.workbook.specs.declared.contents.Content.TheVariants as contents
 use Rattle.workbook.specs.Book.{IsInOrder, content_at, has_formula, is_formula}
 use Rattle.workbook.specs.Meaning.{Val, meaning, shown_value}
-use Rattle.workbook.specs.Stale.{is_among}
 use Rattle.workbook.specs.State.{alone}
-use Rattle.workbook.proofs.PublicLaws.{same_cell_is, same_cells}
+use Rattle.cell_refs.proofs.PublicLaws.{same_cell_is, same_cells}
 use Rattle.rtdhost.proofs.Evaluations.{constant_means}
 use Rattle.rtdhost.specs.Inputs.{IsEvaluated, known_content}
 use Rattle.rtdhost.specs.Publishing.{ShowsMeaning, KeepsMeanings, ShowsStale, ShowsAt, ShowsIfStale}

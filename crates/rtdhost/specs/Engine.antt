@@ -2,12 +2,11 @@
 use Rattle.std.specs.Prelude.{◌≡◌, true, false, List}
 use Rattle.std.specs.BTreeMap.{insert_entry}
 use Rattle.cell_refs.specs.declared.grid.Cell.{Cell}
-use Rattle.cell_refs.specs.Cell.{cell_cmp}
+use Rattle.cell_refs.specs.Cell.{cell_cmp, is_among}
 use Rattle.workbook.specs.declared.contents.Content.{Content}
 use Rattle.workbook.specs.declared.replies.Reply.{Reply}
 use Rattle.workbook.specs.declared.replies.Reply.TheVariants as replies
 use Rattle.workbook.specs.Book.{IsInOrder, SetsContent, exceeds_cells, exceeds_formulas}
-use Rattle.workbook.specs.Stale.{is_among}
 use Rattle.workbook.specs.State.{State}
 use Rattle.rtdhost.specs.declared.engine.Engine.{Engine}
 use Rattle.rtdhost.specs.Publishing.{ShowsMeaning}

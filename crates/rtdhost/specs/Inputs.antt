@@ -6,8 +6,8 @@ use Rattle.std.specs.Map.{keys_of, lookup}
 use Rattle.cell_eval.specs.Jobs.{input_of}
 use Rattle.cell_refs.specs.declared.areas.Area.{Area}
 use Rattle.cell_refs.specs.declared.grid.Cell.{Cell}
-use Rattle.cell_refs.specs.Area.{cells_of}
-use Rattle.cell_refs.specs.Cell.{cell_cmp, same_cell}
+use Rattle.cell_refs.specs.Area.{cells_of, lies_in}
+use Rattle.cell_refs.specs.Cell.{cell_cmp, same_cell, is_among}
 use Rattle.cell_values.specs.declared.values.Value.{Value}
 use Rattle.cell_values.specs.declared.values.Value.TheVariants.{Blank, Num as Number', Text as Text', Bool as Bool', Error as Error'}
 use Rattle.formula_parse.specs.declared.nodes.Node.{Node}
@@ -18,11 +18,10 @@ use Rattle.workbook.specs.Book.{cells_from, content_at, is_formula}
 use Rattle.workbook.specs.Evaluation.{Answer, Val, Asks, Needs, answer_of}
 use Rattle.workbook.specs.Meaning as meanings
 use Rattle.workbook.specs.Meaning.{meaning, shown_value, world_at}
-use Rattle.workbook.specs.Stale.{is_among}
 use Rattle.workbook.specs.State.{alone}
 use Rattle.rtdhost.specs.declared.gathering.Step.{Step}
 use Rattle.rtdhost.specs.declared.gathering.Step.TheVariants as steps
-use Rattle.rtdhost.specs.Scanning.{is_before, lies_in}
+use Rattle.rtdhost.specs.Scanning.{is_before}
 
 -- the value of a constant, or what is known of a formula's
 abbrev pub known_content : Option Content → Option Value → Option Value

@@ -2,10 +2,10 @@
 use Rattle.std.specs.Prelude.{◌≡◌, Bool, true, if◌then◌else◌, ◌||◌, ◌⊎◌, List}
 use Rattle.std.specs.List.{list_any}
 use Rattle.cell_refs.specs.declared.grid.Cell.{Cell}
-use Rattle.cell_refs.specs.Cell.{same_cell}
+use Rattle.cell_refs.specs.Cell.{same_cell, is_among}
 use Rattle.workbook.specs.declared.contents.Content.{Content}
 use Rattle.workbook.specs.Book.{cell_precedents, is_formula}
-use Rattle.workbook.specs.Stale.{is_among, is_stale}
+use Rattle.workbook.specs.Stale.{is_stale}
 
 -- whether a cell is changed or marked
 abbrev pub is_hot : List Cell → List Cell → Cell → Bool

@@ -3,12 +3,11 @@ use Rattle.std.specs.Prelude.{◌≡◌, true, false, Option, Some, if◌then◌
 use Rattle.std.specs.Option.{option_map}
 use Rattle.std.specs.Map.{lookup}
 use Rattle.cell_refs.specs.declared.grid.Cell.{Cell}
-use Rattle.cell_refs.specs.Cell.{same_cell}
+use Rattle.cell_refs.specs.Cell.{same_cell, is_among}
 use Rattle.cell_values.specs.declared.values.Value.{Value}
 use Rattle.workbook.specs.declared.contents.Content.{Content}
 use Rattle.workbook.specs.Book.{content_at, is_formula}
 use Rattle.workbook.specs.Meaning.{meaning, shown_value}
-use Rattle.workbook.specs.Stale.{is_among}
 use Rattle.workbook.specs.State.{alone}
 
 -- what a sheet shows of a cell is what the cell means in the book; nothing where it has no content

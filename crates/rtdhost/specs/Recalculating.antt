@@ -3,7 +3,7 @@ use Rattle.std.specs.Prelude.{◌≡◌, false, List}
 use Rattle.cell_refs.specs.declared.grid.Cell.{Cell}
 use Rattle.workbook.specs.declared.contents.Content.{Content}
 use Rattle.workbook.specs.Book.{content_at}
-use Rattle.workbook.specs.Stale.{is_among}
+use Rattle.cell_refs.specs.Cell.{is_among}
 
 -- every other cell than the changed ones has the content that it had
 abbrev pub KeepsOthers : List Cell → List (Cell × Content) → List (Cell × Content) → Type 0

@@ -1,15 +1,10 @@
 -- Which cells lie in areas, and which of them is next.
 use Rattle.std.specs.Prelude.{◌≡◌, Bool, true, false, if◌then◌else◌, Option, None, Some, List}
-use Rattle.std.specs.List.{list_any}
 use Rattle.std.specs.Ordering.{is_lt}
 use Rattle.cell_refs.specs.declared.areas.Area.{Area}
 use Rattle.cell_refs.specs.declared.grid.Cell.{Cell}
-use Rattle.cell_refs.specs.Area.{area_has}
+use Rattle.cell_refs.specs.Area.{lies_in}
 use Rattle.cell_refs.specs.Cell.{cell_cmp}
-
--- whether a cell lies in one of the areas
-abbrev pub lies_in : List Area → Cell → Bool
-lies_in areas cell = list_any (λ area. area_has area cell) areas
 
 -- whether a cell is less than another
 abbrev pub is_less : Cell → Cell → Bool

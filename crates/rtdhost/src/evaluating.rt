@@ -5,12 +5,11 @@ ghost use Rattle.std.specs.Map.{lookup};
 ghost use Rattle.cell_eval.specs.Jobs.{input_of};
 ghost use Rattle.cell_eval.specs.Outcomes.{outcome_answer};
 ghost use Rattle.cell_refs.specs.declared.grid.Cell.{Cell};
-ghost use Rattle.cell_refs.specs.Cell.{same_cell};
+ghost use Rattle.cell_refs.specs.Cell.{same_cell, is_among};
 ghost use Rattle.cell_values.specs.declared.values.Value.{Value};
 ghost use Rattle.workbook.specs.Book.{IsInOrder, formula_cells, is_formula};
 ghost use Rattle.workbook.specs.Evaluation.{answer_of};
 ghost use Rattle.workbook.specs.Meaning.{world_at};
-ghost use Rattle.workbook.specs.Stale.{is_among};
 ghost use Rattle.workbook.specs.State.{alone};
 ghost use Rattle.rtdhost.specs.Inputs.{answer_value, known_input, value_if_known, ready_value, ShowsOthers, AreMeant, KeepsFinished, FinishesReady, IsFinishedOrNew, IsEvaluated};
 

@@ -5,7 +5,8 @@ ghost use Rattle.std.specs.List.{flat_map, list_any};
 ghost use Rattle.cell_refs.specs.declared.grid.Cell.{Cell};
 ghost use Rattle.cell_refs.specs.Area.{cells_of};
 ghost use Rattle.workbook.specs.Book.{IsInOrder, is_formula, formula_cells};
-ghost use Rattle.workbook.specs.Stale.{is_among, is_stale};
+ghost use Rattle.cell_refs.specs.Cell.{is_among};
+ghost use Rattle.workbook.specs.Stale.{is_stale};
 ghost use Rattle.rtdhost.specs.Marking.{is_hot, is_touched, AreStale, KeepsMarks, MarksTouched, IsMarkedOrNew, AreFormulas};
 
 use super::scanning::has_within;

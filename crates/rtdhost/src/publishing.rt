@@ -3,7 +3,7 @@
 ghost use Rattle.std.specs.Prelude.{◌≡◌, OnOk, true, false};
 ghost use Rattle.cell_refs.specs.declared.grid.Cell.{Cell};
 ghost use Rattle.workbook.specs.Book.{IsInOrder, is_formula};
-ghost use Rattle.workbook.specs.Stale.{is_among};
+ghost use Rattle.cell_refs.specs.Cell.{is_among};
 ghost use Rattle.rtdhost.specs.Inputs.{IsEvaluated};
 ghost use Rattle.rtdhost.specs.Publishing.{ShowsMeaning, KeepsMeanings, ShowsConstants, ShowsStale, ShowsAt, ShowsIfStale};
 ghost use Rattle.std.specs.Prelude.{List};

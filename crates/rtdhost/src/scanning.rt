@@ -2,8 +2,9 @@
 
 ghost use Rattle.std.specs.Prelude.{◌≡◌, [], ◌∷◌};
 ghost use Rattle.std.specs.List.{list_any};
-ghost use Rattle.workbook.specs.Stale.{is_among};
-ghost use Rattle.rtdhost.specs.Scanning.{IsFirst, IsLeastFrom, IsNext, corner, lesser, lies_in};
+ghost use Rattle.cell_refs.specs.Cell.{is_among};
+ghost use Rattle.cell_refs.specs.Area.{lies_in};
+ghost use Rattle.rtdhost.specs.Scanning.{IsFirst, IsLeastFrom, IsNext, corner, lesser};
 
 use cell_refs::{Area, Cell};
 use std::collections::BTreeSet;

@@ -9,7 +9,7 @@ use Rattle.std.proofs.lemmas.Map.Entries.{lookup_from_place}
 use Rattle.std.proofs.lemmas.Map.Keys.{IsDistinct-from_sorted}
 use Rattle.cell_refs.specs.declared.grid.Cell.{Cell}
 use Rattle.cell_refs.specs.Cell.{cell_cmp, same_cell}
-use Rattle.workbook.proofs.Cells.{same_cell_is, same_cells}
+use Rattle.cell_refs.proofs.PublicLaws.{same_cell_is, same_cells}
 
 -- what holds of the cell of each entry holds of each cell that has content
 pub at_entry : {X : Type 0} (P : Cell → Type 0) (es : List (Cell × X)) (cell : Cell) (x : X) → lookup (same_cell cell) es ≡ Some x → AllByRecursion (λ e. P e.0) es → P cell

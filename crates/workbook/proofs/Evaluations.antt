@@ -24,12 +24,12 @@ use Rattle.formula_parse.specs.declared.operators.Operator.{Operator}
 use Rattle.formula_parse.specs.Tree.{areas_named, areas_step, concat, precedents}
 use Rattle.formula_parse.proofs.PublicLaws.{fold_number, fold_text, fold_error, fold_boolean, fold_reference, fold_area, fold_call, fold_parentheses, fold_negation, fold_chain, node_induction}
 use Rattle.functions.specs.Applied.{result_of}
-use Rattle.functions.specs.Functions.{arity_of}
+use Rattle.functions.specs.Functions.{arity_of, takes_area, is_within}
 use Rattle.functions.specs.declared.arguments.Arg.{Arg}
 use Rattle.functions.specs.declared.arguments.Arg.TheVariants as inputs
 use Rattle.functions.specs.declared.functions.Function.{Function}
 use Rattle.functions.specs.declared.functions.Function.TheVariants as functions
-use Rattle.workbook.specs.Evaluation.{World, Answer, Val, Part, Argument, answer_of, part_of, part_step, final_answer, error_answer, takes_area, with_input, with_inputs, function_answer, is_within, added_answer, call_answer, own_site, sites_in, arguments_of}
+use Rattle.workbook.specs.Evaluation.{World, Answer, Val, Part, Argument, answer_of, part_of, part_step, final_answer, error_answer, with_input, with_inputs, function_answer, added_answer, call_answer, own_site, sites_in, arguments_of}
 
 -- ---- lists
 -- what holds of each of two lists together, holds of each of the first

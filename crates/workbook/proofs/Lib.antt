@@ -1,5 +1,4 @@
 -- Laws of books, and of what their cells mean.
-mod Cells
 mod Counts
 mod Entries
 mod RegistryLaws

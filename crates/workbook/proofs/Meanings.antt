@@ -12,7 +12,8 @@ use Rattle.workbook.specs.Book.{IsInOrder, content_at, has_formula, content_prec
 use Rattle.workbook.specs.Circular.{walks_on, is_circular}
 use Rattle.workbook.specs.Evaluation.{answer_of}
 use Rattle.workbook.specs.Meaning.{Setting, Meaning, Val, Circ, Open, world_at, meaning_of_answer, value_in, is_open, content_meaning, meaning_within, meaning}
-use Rattle.workbook.specs.Stale.{is_among, reaches, is_stale}
+use Rattle.cell_refs.specs.Cell.{is_among}
+use Rattle.workbook.specs.Stale.{reaches, is_stale}
 use Rattle.workbook.proofs.Evaluations.{evaluated_alike}
 use Rattle.workbook.proofs.Walking.{walks-shorter, circular-walks, circular-names}
 use Rattle.workbook.proofs.Reaching.{or_false, reaches-enough, reaches-constant}

@@ -1,5 +1,4 @@
--- The laws that crates above may cite: cells of a book, walks, what is reached, and meanings.
-pub use Rattle.workbook.proofs.Cells.{same_cell_is, same_cells}
+-- The laws that crates above may cite: contents of a book, walks, what is reached, and meanings.
 pub use Rattle.workbook.proofs.Entries.{own_content}
 pub use Rattle.workbook.proofs.Evaluations.{evaluated_alike}
 pub use Rattle.workbook.proofs.Meanings.{meaning-kept_clean, each_leads, none_where, shows_circle, meaning-unfolds}

@@ -5,7 +5,8 @@ use Rattle.cell_refs.specs.declared.grid.Cell.{Cell}
 use Rattle.workbook.specs.declared.contents.Content.{Content}
 use Rattle.workbook.specs.declared.contents.Content.TheVariants as contents
 use Rattle.workbook.specs.Book.{IsInOrder, content_at, has_formula, content_precedents, is_formula, cell_precedents, formula_count}
-use Rattle.workbook.specs.Stale.{is_among, reaches}
+use Rattle.cell_refs.specs.Cell.{is_among}
+use Rattle.workbook.specs.Stale.{reaches}
 use Rattle.workbook.proofs.Settling.{settled}
 use Rattle.workbook.proofs.Walking.{any_leads, any_alike}
 

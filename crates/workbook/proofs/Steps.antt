@@ -11,10 +11,9 @@ use Rattle.std.proofs.lemmas.Map.Made.{is_some-lookup}
 use Rattle.std.proofs.lemmas.List.Sums.{length-filter}
 use Rattle.cell_refs.specs.declared.grid.Cell.{Cell}
 use Rattle.cell_refs.specs.Cell.{cell_cmp, same_cell}
-use Rattle.cell_refs.proofs.PublicLaws.{cells_total}
+use Rattle.cell_refs.proofs.PublicLaws.{cells_total, same_cells}
 use Rattle.workbook.specs.declared.contents.Content.{Content}
 use Rattle.workbook.specs.Book.{IsInOrder, content_at, has_formula, is_formula, formula_cells, formula_count, cells_after, first_cell, next_cell}
-use Rattle.workbook.proofs.Cells.{same_cells}
 use Rattle.workbook.proofs.Entries.{own_content}
 
 pub formula_cells-count : (book : List (Cell × Content)) → length (formula_cells book) ≡ formula_count book

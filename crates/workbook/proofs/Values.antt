@@ -26,7 +26,7 @@ use Rattle.formula_parse.specs.declared.operators.Operator.{Operator}
 use Rattle.formula_parse.specs.Tree.{precedents}
 use Rattle.formula_parse.proofs.PublicLaws.{fold_number, fold_text, fold_error, fold_boolean, fold_reference, fold_area, fold_call, fold_parentheses, fold_negation, fold_chain, node_induction}
 use Rattle.functions.specs.Applied.{result_of}
-use Rattle.functions.specs.Functions.{arity_of}
+use Rattle.functions.specs.Functions.{arity_of, takes_area, is_within}
 use Rattle.functions.specs.Inputs.{all_ok}
 use Rattle.functions.specs.Kinds.{is_error, is_na}
 use Rattle.functions.specs.declared.arguments.Arg.{Arg}
@@ -37,7 +37,7 @@ use Rattle.workbook.specs.declared.contents.Content.{Content}
 use Rattle.workbook.specs.declared.contents.Content.TheVariants as contents
 use Rattle.workbook.specs.Book.{content_at, has_formula, content_precedents, cell_precedents, formula_count}
 use Rattle.workbook.specs.Circular.{walks_on, is_circular}
-use Rattle.workbook.specs.Evaluation.{World, Answer, Val, Part, Argument, LONGEST_STRING, RTD_ARITY, then_with, with_all, chain_value, repeated_negation, arguments_of, answers_of, takes_area, area_input, with_input, with_inputs, branch, if_answer, unless_answer, chosen_at, choice_of, choose_answer, function_answer, is_within, known_answer, topic_answer, rtd_answer, added_answer, call_answer, final_answer, error_answer, own_site, part_of, part_step, answer_of}
+use Rattle.workbook.specs.Evaluation.{World, Answer, Val, Part, Argument, LONGEST_STRING, RTD_ARITY, then_with, with_all, chain_value, repeated_negation, arguments_of, answers_of, area_input, with_input, with_inputs, branch, if_answer, unless_answer, chosen_at, choice_of, choose_answer, function_answer, known_answer, topic_answer, rtd_answer, added_answer, call_answer, final_answer, error_answer, own_site, part_of, part_step, answer_of}
 use Rattle.workbook.specs.Meaning.{Setting, Meaning, Circ, Open, world_at, meaning_of_answer, value_in, is_open, content_meaning, meaning_within, meaning}
 use Rattle.workbook.specs.Meaning as meanings
 use Rattle.workbook.proofs.Meanings.{none_where, shows_circle, shows_within}

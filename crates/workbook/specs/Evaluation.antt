@@ -31,7 +31,7 @@ use Rattle.functions.specs.declared.arguments.Arg.TheVariants as inputs
 use Rattle.functions.specs.declared.functions.Function.{Function}
 use Rattle.functions.specs.declared.functions.Function.TheVariants as functions
 use Rattle.functions.specs.Applied.{result_of}
-use Rattle.functions.specs.Functions.{arity_of}
+use Rattle.functions.specs.Functions.{arity_of, is_within, takes_area}
 use Rattle.functions.specs.Inputs.{all_ok}
 use Rattle.functions.specs.Kinds.{is_error, is_na}
 
@@ -128,19 +128,6 @@ abbrev pub answers_of : ℕ → List Part → List Answer
 answers_of before [] = []
 answers_of before (part ∷ parts) = part.value before ∷ answers_of (before + part.sites) parts
 
--- whether a function takes the values of the area that its argument at this place refers to
-abbrev pub takes_area : Function → ℕ → Bool
-takes_area functions.Sum place = true
-takes_area functions.Product place = true
-takes_area functions.Min place = true
-takes_area functions.Max place = true
-takes_area functions.Count place = true
-takes_area functions.CountA place = true
-takes_area functions.And place = true
-takes_area functions.Or place = true
-takes_area functions.Index place = place == 0
-takes_area other place = false
-
 -- the values of an area, by rows
 abbrev pub area_input : World → Area → Arg
 area_input world area = inputs.Cells (area.right + 1 - area.left) (map world.input (cells_of area))
@@ -198,10 +185,6 @@ function_answer world functions.IfError arguments = unless_answer is_error argum
 function_answer world functions.IfNa arguments = unless_answer is_na arguments
 function_answer world functions.Choose arguments = choose_answer arguments
 function_answer world f arguments = with_inputs world f 0 arguments (λ args. Val (result_of f args))
-
--- a count within an arity
-abbrev pub is_within : ℕ × ℕ → ℕ → Bool
-is_within arity count = nat_le arity.0 count && nat_le count arity.1
 
 -- the most characters of a topic's string
 abbrev pub LONGEST_STRING : ℕ

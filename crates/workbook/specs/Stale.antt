@@ -2,13 +2,9 @@
 use Rattle.std.specs.Prelude.{ℕ, zero, suc, Bool, ◌||◌, ◌&&◌, List}
 use Rattle.std.specs.List.{list_any, count_by}
 use Rattle.cell_refs.specs.declared.grid.Cell.{Cell}
-use Rattle.cell_refs.specs.Cell.{same_cell}
+use Rattle.cell_refs.specs.Cell.{is_among}
 use Rattle.workbook.specs.declared.contents.Content.{Content}
 use Rattle.workbook.specs.Book.{is_formula, cell_precedents, formula_count}
-
--- whether a cell is among those
-abbrev pub is_among : List Cell → Cell → Bool
-is_among cells cell = list_any (same_cell cell) cells
 
 -- whether a changed cell is reached from the cell in at most this many steps, each from a cell to one that it names
 abbrev pub reaches : List (Cell × Content) → List Cell → ℕ → Cell → Bool

@@ -7,7 +7,8 @@ ghost use Rattle.cell_values.specs.declared.values.Value.{Value};
 ghost use Rattle.workbook.specs.declared.contents.Content.{Content};
 ghost use Rattle.workbook.specs.Book.{IsInOrder, is_formula, content_at, cell_precedents, formula_count};
 ghost use Rattle.workbook.specs.Circular.{is_circular, walks_on};
-ghost use Rattle.workbook.specs.Stale.{is_among, reaches, is_stale};
+ghost use Rattle.cell_refs.specs.Cell.{is_among};
+ghost use Rattle.workbook.specs.Stale.{reaches, is_stale};
 ghost use Rattle.workbook.specs.Meaning.{Setting, meaning, Val, Circ, content_meaning};
 
 /// From a circular cell there are walks of every length, and a cell is circular exactly where it names a

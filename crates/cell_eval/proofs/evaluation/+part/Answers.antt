@@ -22,8 +22,8 @@ use Rattle.formula_parse.specs.declared.nodes.Node.{Node}
 use Rattle.formula_parse.specs.Tree.{site_count}
 use Rattle.functions.specs.Applied.{result_of}
 use Rattle.functions.specs.Inputs.{IsInput}
-use Rattle.functions.specs.Functions.{arity_of, function_named}
-use Rattle.workbook.specs.Evaluation.{Val, with_all, operations_of, is_within, own_site, final_answer, repeated_negation, then_with}
+use Rattle.functions.specs.Functions.{arity_of, function_named, is_within}
+use Rattle.workbook.specs.Evaluation.{Val, with_all, operations_of, own_site, final_answer, repeated_negation, then_with}
 use Rattle.cell_eval.proofs.evaluation.+part.Goals as goal
 use Rattle.cell_eval.proofs.evaluation.+part.Goals.{call-then-ne, call-else-ne}
 

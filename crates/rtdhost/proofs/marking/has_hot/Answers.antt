@@ -1,7 +1,7 @@
 use Rattle.std.proofs.Common.{◌||◌, ap, sym, ◌∙◌}
 use Rattle.std.specs.List.{list_any}
 use Rattle.std.proofs.lemmas.Bool.{or_left}
-use Rattle.rtdhost.specs.Scanning.{lies_in}
+use Rattle.cell_refs.specs.Area.{lies_in}
 use Rattle.rtdhost.proofs.SharedCells.{hot-within}
 use Rattle.rtdhost.proofs.marking.has_hot.Goals as goal
 

@@ -1,7 +1,7 @@
 use Rattle.std.proofs.Common.{◌≡◌, true, false}
 use Rattle.cell_refs.specs.declared.grid.Cell.{Cell}
 use Rattle.workbook.specs.Book.{is_formula}
-use Rattle.workbook.specs.Stale.{is_among}
+use Rattle.cell_refs.specs.Cell.{is_among}
 use Rattle.rtdhost.specs.Publishing.{KeepsMeanings, ShowsMeaning}
 use Rattle.rtdhost.proofs.publishing.show_constants.Given as goal
 

@@ -2,7 +2,7 @@ use Rattle.std.proofs.Common.{◌≡◌, true, take, List}
 use Rattle.cell_refs.specs.declared.grid.Cell.{Cell}
 use Rattle.workbook.specs.declared.contents.Content.{Content}
 use Rattle.workbook.specs.Book.{is_formula}
-use Rattle.workbook.specs.Stale.{is_among}
+use Rattle.cell_refs.specs.Cell.{is_among}
 use Rattle.rtdhost.specs.Inputs.{IsEvaluated}
 use Rattle.rtdhost.specs.Publishing.{KeepsMeanings, ShowsStale}
 use Rattle.rtdhost.proofs.publishing.show_stale.Given as goal

@@ -1,6 +1,6 @@
 use Rattle.std.proofs.Common.{◌<◌, sym, subst}
-use Rattle.workbook.specs.Stale.{is_among}
-use Rattle.rtdhost.specs.Scanning.{lies_in}
+use Rattle.cell_refs.specs.Cell.{is_among}
+use Rattle.cell_refs.specs.Area.{lies_in}
 use Rattle.rtdhost.proofs.KeyLaws.{none-within, some-key}
 use Rattle.rtdhost.proofs.ScanLaws.{before-all, before-end, before-skips, first-before, left_from, left-falls}
 use Rattle.rtdhost.proofs.scanning.has_within.Goals as goal

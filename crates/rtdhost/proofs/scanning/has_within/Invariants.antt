@@ -1,7 +1,8 @@
 use Rattle.std.proofs.Common.{◌≡◌, true, false}
 use Rattle.cell_refs.specs.declared.grid.Cell.{Cell}
-use Rattle.workbook.specs.Stale.{is_among}
-use Rattle.rtdhost.specs.Scanning.{lies_in, is_before}
+use Rattle.cell_refs.specs.Cell.{is_among}
+use Rattle.cell_refs.specs.Area.{lies_in}
+use Rattle.rtdhost.specs.Scanning.{is_before}
 use Rattle.rtdhost.proofs.ScanLaws.{left_from}
 use Rattle.rtdhost.proofs.scanning.has_within.Given as goal
 

@@ -2,7 +2,8 @@ use Rattle.std.proofs.Common.{ap, sym, subst, refl, ◌∙◌}
 use Rattle.workbook.specs.declared.commands.Command.TheVariants.{Settle}
 use Rattle.workbook.specs.declared.replies.Reply.TheVariants.{Done}
 use Rattle.workbook.specs.Book.{IsInOrder}
-use Rattle.workbook.specs.Stale.{is_among, stale_count}
+use Rattle.cell_refs.specs.Cell.{is_among}
+use Rattle.workbook.specs.Stale.{stale_count}
 use Rattle.rtdhost.specs.Engine.{Stands}
 use Rattle.rtdhost.specs.Publishing.{ShowsMeaning}
 use Rattle.rtdhost.specs.Recalculating.{KeepsOthers}
