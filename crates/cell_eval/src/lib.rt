@@ -1,7 +1,9 @@
 //! Evaluates one formula, as far as it comes with what is known.
 #![tactic(auto)]
 
+mod added;
 mod area_values;
+mod choices;
 mod evaluation;
 mod halts;
 mod jobs;
@@ -9,7 +11,6 @@ mod laws;
 mod lookups;
 mod operations;
 mod outcomes;
-mod plans;
 mod resuming;
 mod sites;
 #[cfg(test)]

@@ -2,8 +2,8 @@ use Rattle.std.proofs.Common.{◌≡◌, ◌≢◌, ◌<◌, length, true, false
 use Rattle.std.proofs.lemmas.List.{set-get_or}
 use Rattle.cell_values.specs.declared.values.Value.TheVariants as values
 use Rattle.cell_eval.proofs.OperationLaws.{turn_blank, turn_other}
-use Rattle.cell_eval.proofs.plans.all_finished.Goals as goal
-use Rattle.cell_eval.proofs.plans.all_finished.Goals.{then-matches+in-Text-1, then-matches+in-Num-1, else-matches, in-Blank, in_default}
+use Rattle.cell_eval.proofs.added.all_finished.Goals as goal
+use Rattle.cell_eval.proofs.added.all_finished.Goals.{then-matches+in-Text-1, then-matches+in-Num-1, else-matches, in-Blank, in_default}
 
 pub loop-value-preserved : goal.loop-value-preserved
 loop-value-preserved c =

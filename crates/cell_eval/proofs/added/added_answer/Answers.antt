@@ -1,7 +1,7 @@
 use Rattle.std.proofs.Common.{ap, sym, ◌∙◌}
 use Rattle.workbook.specs.Evaluation.{Val, Asks, kind_answer, accepted_answer}
 use Rattle.cell_eval.specs.Jobs.{world_of, result_at}
-use Rattle.cell_eval.proofs.plans.function_answer.Goals as goal
+use Rattle.cell_eval.proofs.added.added_answer.Goals as goal
 
 pub returns-in_ok-call-in-Plain : goal.returns-in_ok-call-in-Plain
 unfolding world_of
