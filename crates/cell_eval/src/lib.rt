@@ -17,7 +17,8 @@ mod sites;
 mod tests;
 mod topics;
 
-pub use jobs::{Functions, Inputs, Job, Outcome, Results, Topics};
-pub use laws::topics_read;
+pub use cell_values::Topic;
+pub use jobs::{Inputs, Job, Outcome, Registrations, Results, Topics};
+pub use laws::sufficient_topics;
 pub use outcomes::eval;
 pub use resuming::eval_closed;
