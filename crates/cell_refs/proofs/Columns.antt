@@ -6,11 +6,11 @@ use Rattle.std.proofs.Math.Seq.{drop-append_seam}
 use Rattle.std.specs.Char.{is_ascii_uppercase}
 use Rattle.std.specs.List.{list_all}
 use Rattle.cell_refs.specs.Reading.{column_at, column_number}
-use Rattle.cell_refs.specs.Written.{column_letters, last_letter, rounds}
+use Rattle.cell_refs.specs.Written.{column_letters, last_letter, rounds_before}
 use Rattle.cell_refs.proofs.Numbers.{front_and_rest, let_through, rest_stops, take_while-append}
 
 -- n has gone round q times, and its last letter is the one at the place r of the alphabet
-round_is : (n q r : ℕ) → n ≡ 26 * q + r → 1 ≤ r → r ≤ 26 → rounds n ≡ q
+round_is : (n q r : ℕ) → n ≡ 26 * q + r → 1 ≤ r → r ≤ 26 → rounds_before n ≡ q
 round_is n q r e low high = omega arith
 
 chosen_letter : (b : Bool) (v w : ℕ) → b ≡ false → v ≡ w → cond b [] (v ∷ []) ≡ w ∷ []
@@ -19,12 +19,12 @@ chosen_letter b v w out same = rw (out, same) refl
 letter_is : (n q r : ℕ) → n ≡ 26 * q + r → 1 ≤ r → r ≤ 26 → last_letter n ≡ (64 + r) ∷ []
 letter_is n q r e low high = chosen_letter (n == 0) (65 + (n - 1) % 26) (64 + r) (grind (arith, nat_tests)) (omega arith)
 
-letters_by_rounds : (n q p : ℕ) → rounds n ≡ q → rounds q ≡ p → column_letters n ≡ last_letter p ++ (last_letter q ++ last_letter n)
+letters_by_rounds : (n q p : ℕ) → rounds_before n ≡ q → rounds_before q ≡ p → column_letters n ≡ last_letter p ++ (last_letter q ++ last_letter n)
 unfolding column_letters
-letters_by_rounds n q p e f = ap (λ p. last_letter p ++ (last_letter (rounds n) ++ last_letter n)) (ap rounds e ∙ f) ∙ ap (λ q. last_letter p ++ (last_letter q ++ last_letter n)) e
+letters_by_rounds n q p e f = ap (λ p. last_letter p ++ (last_letter (rounds_before n) ++ last_letter n)) (ap rounds_before e ∙ f) ∙ ap (λ q. last_letter p ++ (last_letter q ++ last_letter n)) e
 
 -- a column from 1 on is a number of rounds and a place in the alphabet
-column_parts : (n : ℕ) → 1 ≤ n → (r : ℕ) × (1 ≤ r) × (r ≤ 26) × (n ≡ 26 * rounds n + r)
+column_parts : (n : ℕ) → 1 ≤ n → (r : ℕ) × (1 ≤ r) × (r ≤ 26) × (n ≡ 26 * rounds_before n + r)
 column_parts n some = ((n - 1) % 26 + 1, omega arith, omega arith, omega arith)
 
 one_letter : (n a : ℕ) → n ≡ a → 1 ≤ a → a ≤ 26 → column_letters n ≡ (64 + a) ∷ []
@@ -94,12 +94,12 @@ unfolding column_number
 spells_three n a b c e la ha lb hb lc hc = record { all = grind (arith, nat_tests); some = omega arith; few = omega arith; number = omega arith }
 
 letters_spell : (n : ℕ) → 1 ≤ n → n ≤ 18278 → Spells n (column_letters n)
-letters_spell n some few = by_round (rounds n) refl
+letters_spell n some few = by_round (rounds_before n) refl
   where
-    last : (r : ℕ) × (1 ≤ r) × (r ≤ 26) × (n ≡ 26 * rounds n + r)
+    last : (r : ℕ) × (1 ≤ r) × (r ≤ 26) × (n ≡ 26 * rounds_before n + r)
     last = column_parts n some
 
-    by_two : (q p : ℕ) → rounds n ≡ q → 1 ≤ q → rounds q ≡ p → Spells n (column_letters n)
+    by_two : (q p : ℕ) → rounds_before n ≡ q → 1 ≤ q → rounds_before q ≡ p → Spells n (column_letters n)
     by_two q zero e some f =
         let b = last in let a = column_parts q some in
         rw (two_letters n a.0 b.0 (omega (arith, b.3, a.3)) a.1 a.2 b.1 b.2) (spells_two n a.0 b.0 (omega (arith, b.3, a.3)) a.1 a.2 b.1 b.2)
@@ -107,11 +107,11 @@ letters_spell n some few = by_round (rounds n) refl
         let c = last in let b = column_parts q some in
         rw (three_letters n (suc p) b.0 c.0 (omega (arith, b.3, c.3)) (omega arith) (omega (arith, b.3, c.3)) b.1 b.2 c.1 c.2) (spells_three n (suc p) b.0 c.0 (omega (arith, b.3, c.3)) (omega arith) (omega (arith, b.3, c.3)) b.1 b.2 c.1 c.2)
 
-    by_round : (q : ℕ) → rounds n ≡ q → Spells n (column_letters n)
+    by_round : (q : ℕ) → rounds_before n ≡ q → Spells n (column_letters n)
     by_round zero e =
         let a = last in
         rw (one_letter n a.0 (omega (arith, a.3)) a.1 a.2) (spells_one n a.0 (omega (arith, a.3)) a.1 a.2)
-    by_round (suc q) e = by_two (suc q) (rounds (suc q)) e (omega arith) refl
+    by_round (suc q) e = by_two (suc q) (rounds_before (suc q)) e (omega arith) refl
 
 pub column_again : (n : ℕ) (rest : List ℕ) → 1 ≤ n → n ≤ 16384 → is_ascii_uppercase (slice_index rest 0) ≡ false → column_at (column_letters n ++ rest) ≡ Some (n, rest)
 column_again n rest some small stops =

@@ -9,7 +9,8 @@ use Rattle.std.specs.List.{All, AllPairs, Contains, range_with_len}
 use Rattle.std.specs.declared.cmp.Ordering.TheVariants.{Less}
 use Rattle.cell_refs.specs.declared.areas.Area.{Area}
 use Rattle.cell_refs.specs.declared.grid.Cell.{Cell}
-use Rattle.cell_refs.specs.Area.{IsArea, IsInside, cells_from, cells_of, numbers, row_cells, size_of}
+use Rattle.cell_refs.specs.Area.{IsArea, IsInside, cells_of, numbers_between, row_cells, size_of}
+use Rattle.cell_refs.specs.AreaWalk.{area_cells_from}
 use Rattle.cell_refs.specs.Cell.{IsCell, cell_cmp}
 
 range_first : (low n m : ℕ) → n ≡ suc m → range_with_len low n ≡ low ∷ range_with_len (low + 1) m
@@ -18,10 +19,10 @@ range_first low n m e = ap (range_with_len low) e
 range_none : (low n : ℕ) → n ≡ 0 → range_with_len low n ≡ []
 range_none low n e = ap (range_with_len low) e
 
-numbers_first : (low high : ℕ) → low ≤ high → numbers low high ≡ low ∷ numbers (low + 1) high
+numbers_first : (low high : ℕ) → low ≤ high → numbers_between low high ≡ low ∷ numbers_between (low + 1) high
 numbers_first low high h = range_first low (high + 1 - low) (high + 1 - (low + 1)) (omega arith)
 
-numbers_none : (low high : ℕ) → high < low → numbers low high ≡ []
+numbers_none : (low high : ℕ) → high < low → numbers_between low high ≡ []
 numbers_none low high h = range_none low (high + 1 - low) (omega arith)
 
 row_first : (sheet left right row : ℕ) → left ≤ right → row_cells sheet left right row ≡ (record { sheet = sheet; row = row; col = left }) ∷ row_cells sheet (left + 1) right row
@@ -31,25 +32,25 @@ row_none : (sheet left right row : ℕ) → right < left → row_cells sheet lef
 row_none sheet left right row h = ap (map (λ col. record { sheet = sheet; row = row; col = col })) (numbers_none left right h)
 
 -- the next cell stands in the same row
-pub next_in_row : (sheet left right bottom row col : ℕ) → col < right → cells_from sheet left right bottom row col ≡ (record { sheet = sheet; row = row; col = col }) ∷ cells_from sheet left right bottom row (col + 1)
-next_in_row sheet left right bottom row col h = ap (λ cells. cells ++ flat_map (row_cells sheet left right) (numbers (row + 1) bottom)) (row_first sheet col right row (omega arith))
+pub next_in_row : (sheet left right bottom row col : ℕ) → col < right → area_cells_from sheet left right bottom row col ≡ (record { sheet = sheet; row = row; col = col }) ∷ area_cells_from sheet left right bottom row (col + 1)
+next_in_row sheet left right bottom row col h = ap (λ cells. cells ++ flat_map (row_cells sheet left right) (numbers_between (row + 1) bottom)) (row_first sheet col right row (omega arith))
 
-last_in_row : (sheet left right bottom row col : ℕ) → col ≡ right → cells_from sheet left right bottom row col ≡ (record { sheet = sheet; row = row; col = col }) ∷ flat_map (row_cells sheet left right) (numbers (row + 1) bottom)
+last_in_row : (sheet left right bottom row col : ℕ) → col ≡ right → area_cells_from sheet left right bottom row col ≡ (record { sheet = sheet; row = row; col = col }) ∷ flat_map (row_cells sheet left right) (numbers_between (row + 1) bottom)
 last_in_row sheet left right bottom row col h =
-    ap (λ cells. cells ++ flat_map (row_cells sheet left right) (numbers (row + 1) bottom)) (row_first sheet col right row (omega arith) ∙ ap (λ cells. (record { sheet = sheet; row = row; col = col }) ∷ cells) (row_none sheet (col + 1) right row (omega arith)))
+    ap (λ cells. cells ++ flat_map (row_cells sheet left right) (numbers_between (row + 1) bottom)) (row_first sheet col right row (omega arith) ∙ ap (λ cells. (record { sheet = sheet; row = row; col = col }) ∷ cells) (row_none sheet (col + 1) right row (omega arith)))
 
 -- the next cell is the first of the next row
-pub next_row : (sheet left right bottom row col : ℕ) → col ≡ right → row < bottom → cells_from sheet left right bottom row col ≡ (record { sheet = sheet; row = row; col = col }) ∷ cells_from sheet left right bottom (row + 1) left
+pub next_row : (sheet left right bottom row col : ℕ) → col ≡ right → row < bottom → area_cells_from sheet left right bottom row col ≡ (record { sheet = sheet; row = row; col = col }) ∷ area_cells_from sheet left right bottom (row + 1) left
 next_row sheet left right bottom row col h below =
     last_in_row sheet left right bottom row col h ∙ ap (λ rows. (record { sheet = sheet; row = row; col = col }) ∷ flat_map (row_cells sheet left right) rows) (numbers_first (row + 1) bottom (omega arith))
 
 -- the last cell
-pub no_next : (sheet left right bottom row col : ℕ) → col ≡ right → row ≡ bottom → cells_from sheet left right bottom row col ≡ (record { sheet = sheet; row = row; col = col }) ∷ []
+pub no_next : (sheet left right bottom row col : ℕ) → col ≡ right → row ≡ bottom → area_cells_from sheet left right bottom row col ≡ (record { sheet = sheet; row = row; col = col }) ∷ []
 no_next sheet left right bottom row col h last =
     last_in_row sheet left right bottom row col h ∙ ap (λ rows. (record { sheet = sheet; row = row; col = col }) ∷ flat_map (row_cells sheet left right) rows) (numbers_none (row + 1) bottom (omega arith))
 
 -- all of an area, from its first cell
-pub from_first : (area : Area) → area.top ≤ area.bottom → cells_of area ≡ cells_from area.sheet area.left area.right area.bottom area.top area.left
+pub from_first : (area : Area) → area.top ≤ area.bottom → cells_of area ≡ area_cells_from area.sheet area.left area.right area.bottom area.top area.left
 unfolding cells_of
 from_first area h = ap (flat_map (row_cells area.sheet area.left area.right)) (numbers_first area.top area.bottom h)
 
@@ -63,7 +64,7 @@ empty_rows sheet left right (row ∷ rows) h = ap (λ cells. cells ++ flat_map (
 
 pub no_columns : (area : Area) → area.right < area.left → cells_of area ≡ []
 unfolding cells_of
-no_columns area h = empty_rows area.sheet area.left area.right (numbers area.top area.bottom) h
+no_columns area h = empty_rows area.sheet area.left area.right (numbers_between area.top area.bottom) h
 
 -- how many
 rows_times : (f : ℕ → List Cell) (m low n : ℕ) → ((row : ℕ) → length (f row) ≡ m) → length (flat_map f (range_with_len low n)) ≡ n * m
@@ -195,15 +196,15 @@ listed_in_order area = rows_ordered area.sheet area.left area.right area.top (ar
 going_on : (ended : Bool) (cells : List Cell) → ended ≡ false → cond ended [] cells ≡ cells
 going_on ended cells going = ap (λ b. cond b [] cells) going
 
-pub steps_in_row : (now : List Cell) (ended : Bool) (sheet left right bottom row col : ℕ) → now ≡ cond ended [] (cells_from sheet left right bottom row col) → ended ≡ false → col < right
-    → now ≡ (record { sheet = sheet; row = row; col = col }) ∷ cond ended [] (cells_from sheet left right bottom row (col + 1))
+pub steps_in_row : (now : List Cell) (ended : Bool) (sheet left right bottom row col : ℕ) → now ≡ cond ended [] (area_cells_from sheet left right bottom row col) → ended ≡ false → col < right
+    → now ≡ (record { sheet = sheet; row = row; col = col }) ∷ cond ended [] (area_cells_from sheet left right bottom row (col + 1))
 steps_in_row now ended sheet left right bottom row col is going h =
-    is ∙ (going_on ended (cells_from sheet left right bottom row col) going ∙ (next_in_row sheet left right bottom row col h ∙ ap (λ cells. (record { sheet = sheet; row = row; col = col }) ∷ cells) (sym (going_on ended (cells_from sheet left right bottom row (col + 1)) going))))
+    is ∙ (going_on ended (area_cells_from sheet left right bottom row col) going ∙ (next_in_row sheet left right bottom row col h ∙ ap (λ cells. (record { sheet = sheet; row = row; col = col }) ∷ cells) (sym (going_on ended (area_cells_from sheet left right bottom row (col + 1)) going))))
 
-pub steps_to_row : (now : List Cell) (ended : Bool) (sheet left right bottom row col : ℕ) → now ≡ cond ended [] (cells_from sheet left right bottom row col) → ended ≡ false → col ≡ right → row < bottom
-    → now ≡ (record { sheet = sheet; row = row; col = col }) ∷ cond ended [] (cells_from sheet left right bottom (row + 1) left)
+pub steps_to_row : (now : List Cell) (ended : Bool) (sheet left right bottom row col : ℕ) → now ≡ cond ended [] (area_cells_from sheet left right bottom row col) → ended ≡ false → col ≡ right → row < bottom
+    → now ≡ (record { sheet = sheet; row = row; col = col }) ∷ cond ended [] (area_cells_from sheet left right bottom (row + 1) left)
 steps_to_row now ended sheet left right bottom row col is going last h =
-    is ∙ (going_on ended (cells_from sheet left right bottom row col) going ∙ (next_row sheet left right bottom row col last h ∙ ap (λ cells. (record { sheet = sheet; row = row; col = col }) ∷ cells) (sym (going_on ended (cells_from sheet left right bottom (row + 1) left) going))))
+    is ∙ (going_on ended (area_cells_from sheet left right bottom row col) going ∙ (next_row sheet left right bottom row col last h ∙ ap (λ cells. (record { sheet = sheet; row = row; col = col }) ∷ cells) (sym (going_on ended (area_cells_from sheet left right bottom (row + 1) left) going))))
 
 -- an area without cells lacks rows or columns
 lacks : (rows columns : ℕ) → rows * columns ≡ 0 → (rows ≡ 0) ⊎ (columns ≡ 0)
@@ -216,7 +217,7 @@ has_both (suc rows) zero other = absurd (other (mul-zero (suc rows)))
 has_both (suc rows) (suc columns) other = (omega arith, omega arith)
 
 -- the cells of an area, as they are at first still to come
-pub begins : (area : Area) (ended : Bool) → ended ≡ (size_of area == 0) → cond ended [] (cells_from area.sheet area.left area.right area.bottom area.top area.left) ≡ cells_of area
+pub begins : (area : Area) (ended : Bool) → ended ≡ (size_of area == 0) → cond ended [] (area_cells_from area.sheet area.left area.right area.bottom area.top area.left) ≡ cells_of area
 begins area true e =
     let none : size_of area ≡ 0 = grind (arith, nat_tests, e) in
     ⊎_elim (λ h. sym (no_rows area (omega (arith, h)))) (λ h. sym (no_columns area (omega (arith, h)))) (lacks (area.bottom + 1 - area.top) (area.right + 1 - area.left) none)

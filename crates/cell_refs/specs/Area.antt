@@ -1,5 +1,5 @@
 -- Areas: the cells between two corners.
-use Rattle.std.specs.Prelude.{◌≡◌, ◌==◌, ◌&&◌, nat_le, Bool, ℕ, ◌+◌, ◌-◌, ◌*◌, ◌≤◌, List, ◌++◌, map, flat_map, min, max, unwrap_or}
+use Rattle.std.specs.Prelude.{◌≡◌, ◌==◌, ◌&&◌, nat_le, Bool, ℕ, ◌+◌, ◌-◌, ◌*◌, ◌≤◌, List, map, flat_map, min, max, unwrap_or}
 use Rattle.std.specs.List.{list_any, range_with_len}
 use Rattle.cell_refs.specs.declared.areas.Area.{Area}
 use Rattle.cell_refs.specs.declared.grid.Cell.{Cell}
@@ -48,21 +48,15 @@ area_of a b home = record {
 }
 
 -- the numbers from low to high
-abbrev pub numbers : ℕ → ℕ → List ℕ
-numbers low high = range_with_len low (high + 1 - low)
+abbrev pub numbers_between : ℕ → ℕ → List ℕ
+numbers_between low high = range_with_len low (high + 1 - low)
 
 -- the cells of a row, from one column to another
 abbrev pub row_cells : ℕ → ℕ → ℕ → ℕ → List Cell
 row_cells sheet left right row =
-    map (λ col. record { sheet = sheet; row = row; col = col }) (numbers left right)
+    map (λ col. record { sheet = sheet; row = row; col = col }) (numbers_between left right)
 
 -- the cells of an area, by rows and then by columns
 unfoldable pub cells_of : Area → List Cell
 cells_of area =
-    flat_map (row_cells area.sheet area.left area.right) (numbers area.top area.bottom)
-
--- the cells from a place in an area on: the rest of its row, and the rows below
-abbrev pub cells_from : ℕ → ℕ → ℕ → ℕ → ℕ → ℕ → List Cell
-cells_from sheet left right bottom row col =
-    row_cells sheet col right row
-    ++ flat_map (row_cells sheet left right) (numbers (row + 1) bottom)
+    flat_map (row_cells area.sheet area.left area.right) (numbers_between area.top area.bottom)

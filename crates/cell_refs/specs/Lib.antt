@@ -1,6 +1,9 @@
 -- What the contracts of this crate cite.
+-- What the product means.
 pub mod Area
 pub mod Cell
-pub mod Reading
 pub mod RefText
 pub mod Written
+-- What the crate's own functions keep.
+pub mod AreaWalk
+pub mod Reading

@@ -1,8 +1,10 @@
--- What a text in upper case begins with: each definition gives what it finds and the text after it.
+-- For the crate's own functions: what a text in upper case begins with. Each definition gives what it finds and
+-- the text after it.
 use Rattle.std.specs.Prelude.{ℕ, Bool, true, false, ◌&&◌, nat_lt, nat_le, ◌==◌, if◌then◌else◌, List, [], ◌∷◌, length, take_while, drop, slice_index, Option, Some, None, codes, fold, ◌+◌, ◌-◌, ◌*◌}
 use Rattle.std.specs.Char.{is_ascii_digit, is_ascii_uppercase}
 use Rattle.std.specs.Option.{option_map_or}
 use Rattle.std.specs.Str.Parse.{digits_value}
+use Rattle.cell_refs.specs.declared.grid.TheConstants.{SHEETS, ROWS, COLUMNS}
 use Rattle.cell_refs.specs.declared.references.RefText.{RefText}
 
 infixl 10 ◌>>=◌
@@ -32,7 +34,7 @@ unfoldable pub column_at : List ℕ → Option (ℕ × List ℕ)
 column_at text =
     let letters = take_while is_ascii_uppercase text in
     let column = column_number letters in
-    if nat_lt 0 (length letters) && nat_le (length letters) 3 && nat_le column 16384
+    if nat_lt 0 (length letters) && nat_le (length letters) 3 && nat_le column COLUMNS
     then Some (column, drop (length letters) text) else None
 
 -- what follows the word
@@ -44,7 +46,7 @@ rest_after (w ∷ ws) (c ∷ cs) = if c == w then rest_after ws cs else None
 -- the number of a sheet, and a `!`
 unfoldable pub sheet_number_at : List ℕ → Option (Option ℕ × List ℕ)
 sheet_number_at text = do
-  number ← number_at 64 text
+  number ← number_at SHEETS text
   rest ← rest_after (codes "!") number.1
   Some (Some number.0, rest)
 
@@ -58,7 +60,7 @@ unfoldable pub reference_in : List ℕ → Option (RefText × List ℕ)
 reference_in text = do
   sheet ← sheet_at text
   column ← column_at (mark_at sheet.1).1
-  row ← number_at 1048576 (mark_at column.1).1
+  row ← number_at ROWS (mark_at column.1).1
   Some (
     record {
       sheet = sheet.0;

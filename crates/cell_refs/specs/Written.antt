@@ -7,8 +7,8 @@ use Rattle.cell_refs.specs.RefText.{IsReference}
 use Rattle.cell_refs.specs.Reading.{reference_in}
 
 -- how often the last letter has gone round from A to Z before the column
-abbrev pub rounds : ℕ → ℕ
-rounds column = (column - 1) / 26
+abbrev pub rounds_before : ℕ → ℕ
+rounds_before column = (column - 1) / 26
 
 -- the last letter of a column; 0 has none
 abbrev pub last_letter : ℕ → List ℕ
@@ -17,7 +17,8 @@ last_letter column = if column == 0 then [] else (65 + (column - 1) % 26) ∷ []
 -- the letters of a column, at most three: 1 is A, 26 is Z, 27 is AA
 unfoldable pub column_letters : ℕ → List ℕ
 column_letters column =
-    last_letter (rounds (rounds column)) ++ (last_letter (rounds column) ++ last_letter column)
+    last_letter (rounds_before (rounds_before column))
+    ++ (last_letter (rounds_before column) ++ last_letter column)
 
 -- `$` before a part that is marked as absolute
 abbrev pub mark : Bool → List ℕ

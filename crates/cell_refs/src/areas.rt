@@ -16,13 +16,14 @@ pub struct Area {
 
 impl Area {
     ghost use Rattle.cell_refs.specs.Area.{IsArea, IsInside, area_has, area_of, cells_of, size_of};
+    ghost use Rattle.cell_refs.specs.Cell.{IsSheet};
     ghost use Rattle.cell_refs.specs.RefText.{IsReference};
 
     /// The area between two references in a formula on the sheet `home`, whichever corners they are. The sheet
     /// of the second one isn't used.
     pub fn of(a: &RefText, b: &RefText, home: u8) -> Area
         ensures exact { result ≡ area_of a.now b.now home }
-        ensures inside { IsReference a.now → IsReference b.now → (1 ≤ home) × (home ≤ 64)
+        ensures inside { IsReference a.now → IsReference b.now → IsSheet home
             → IsArea result }
     {
         Area {
@@ -89,12 +90,12 @@ pub struct Cells {
 impl Model for Cells {
     ghost use Rattle.std.specs.Prelude.{◌≡◌, ◌≤◌, List, [], false, if◌then◌else◌};
     ghost use Rattle.cell_refs.specs.declared.grid.Cell.{Cell};
-    ghost use Rattle.cell_refs.specs.Area.{cells_from};
+    ghost use Rattle.cell_refs.specs.AreaWalk.{area_cells_from};
 
     ghost Value = { List Cell };
 
     ghost view = { λ c. if c.ended then []
-        else cells_from c.sheet c.left c.right c.bottom c.row c.col };
+        else area_cells_from c.sheet c.left c.right c.bottom c.row c.col };
 
     ghost invariant = { λ c. c.ended ≡ false → (c.row ≤ c.bottom) × (c.col ≤ c.right)
         × (c.left ≤ c.right) };

@@ -14,13 +14,13 @@ pub struct RefText {
 }
 
 impl RefText {
-    ghost use Rattle.cell_refs.specs.Cell.{IsCell};
+    ghost use Rattle.cell_refs.specs.Cell.{IsCell, IsSheet};
     ghost use Rattle.cell_refs.specs.RefText.{IsReference, cell_at};
 
     /// The cell that the reference means in a formula on the sheet `home`.
     pub fn at(&self, home: u8) -> Cell
         ensures exact { result ≡ cell_at self.now home }
-        ensures inside { IsReference self.now → (1 ≤ home) × (home ≤ 64) → IsCell result }
+        ensures inside { IsReference self.now → IsSheet home → IsCell result }
     {
         Cell {
             sheet: self.sheet.unwrap_or(home),

@@ -1,5 +1,5 @@
 ghost use Rattle.std.specs.Prelude.{◌≡◌, ◌++◌, OnOk, OnErr, take, vec_len, decimal};
-ghost use Rattle.cell_refs.specs.Written.{cell_text, column_letters, last_letter, mark, reference_text, rounds, sheet_part};
+ghost use Rattle.cell_refs.specs.Written.{cell_text, column_letters, last_letter, mark, reference_text, rounds_before, sheet_part};
 
 use super::grid::Cell;
 use super::memory::Memory;
@@ -91,7 +91,7 @@ fn push_column(column: u16, out: &mut Vec<u8>) -> Result<(), Memory>
 
 /// How often the last letter has gone round from A to Z before the column.
 fn rounds_before(column: u16) -> u16
-    ensures { result ≡ rounds column }
+    ensures { result ≡ rounds_before column }
 {
     column.saturating_sub(1) / 26
 }
