@@ -1,5 +1,6 @@
 -- The laws that crates above may cite: the order of cells, the cells of areas, and references read and written.
-pub use Rattle.cell_refs.proofs.BothWays.{reference_capitals, reference_again, reference_takes, sheet_capitals, sheet_takes}
+unfoldable pub use Rattle.cell_refs.proofs.BothWays.{reference_capitals}
+pub use Rattle.cell_refs.proofs.BothWays.{reference_again, reference_takes, sheet_capitals, sheet_takes}
 pub use Rattle.cell_refs.proofs.Capitals.{number_found, number_none, cut_digits}
 pub use Rattle.cell_refs.proofs.CellOrder.{cells_total, exact_cells, same_cell_is, same_cells}
 pub use Rattle.cell_refs.proofs.Columns.{letters_begin}

@@ -1,6 +1,7 @@
 -- A callee is written by the name that it has.
 use Rattle.std.proofs.Common.{◌≡◌, ℕ, Bool, true, false, cond, List, [], ◌∷◌, Option, Some, None, codes, refl, sym, ap, ◌∙◌, ⊎_elim}
 use Rattle.std.proofs.lemmas.Bool.{cases_Bool, cond-true, cond-false}
+use Rattle.std.proofs.lemmas.Option.{same_Some}
 use Rattle.std.proofs.lemmas.Slice.Eq.{bytes_eq-Decides}
 use Rattle.std.specs.List.{find}
 use Rattle.std.specs.Str.{bytes_eq}
@@ -15,12 +16,9 @@ found_passes : {A : Type 0} (test : A → Bool) (xs : List A) (x : A) → find t
 found_passes test [] x h = absurd (cc)
 found_passes test (y ∷ ys) x h =
     ⊎_elim
-    (λ t. let e : y ≡ x = same_first y x (sym (cond-true _ _ _ t) ∙ h) in ap test (sym e) ∙ t)
+    (λ t. ap test (sym (same_Some y x (sym (cond-true _ _ _ t) ∙ h))) ∙ t)
     (λ f. found_passes test ys x (sym (cond-false _ _ _ f) ∙ h))
     (cases_Bool (test y))
-  where
-    same_first : (y x : _) → Some y ≡ Some x → y ≡ x
-    same_first y x h = cc
 
 -- two texts that are equal by a test
 same_bytes : (a b : List ℕ) → bytes_eq a b ≡ true → a ≡ b
