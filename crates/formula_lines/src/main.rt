@@ -7,19 +7,21 @@ ghost use Rattle.std.specs.String.{string_bytes};
 ghost use Rattle.formula_parse.specs.Printing.{canonical_text};
 ghost use Rattle.formula_lines.specs.Words.{word_of};
 
+use cell_values::Memory;
 use formula_parse::{ParseFault, Tree, parse, print};
 use std::alloc::Global;
 use std::io;
 
 /// The canonical text of a formula.
-fn canonical(alloc: Global, tree: &Tree) -> io::Result<String>
+fn canonical(alloc: Global, tree: &Tree) -> Result<String, Memory>
     ensures { IfOk result (λ text. string_bytes text ≡ canonical_text tree.now) }
 {
     let mut out = Vec::new(alloc);
-    if print(tree, &mut out).is_err() {
-        return Err(io::Error::from(io::ErrorKind::OutOfMemory));
+    print(tree, &mut out)?;
+    match String::from_utf8(out) {
+        Ok(text) => Ok(text),
+        Err(_) => unreachable!(),
     }
-    String::from_utf8(out).map_err(|_| io::Error::from(io::ErrorKind::InvalidData))
 }
 
 /// The word of a fault.
@@ -41,7 +43,9 @@ fn main(rt: HostRuntime) -> io::Result<()> {
     for line in rt.lines(rt.alloc()) {
         match parse(rt.alloc(), line?.as_str()) {
             Ok(tree) => {
-                let text = canonical(rt.alloc(), &tree)?;
+                let Ok(text) = canonical(rt.alloc(), &tree) else {
+                    return Err(io::Error::from(io::ErrorKind::OutOfMemory));
+                };
                 println!(rt; "{text}")?;
                 trees.push(tree)?;
             }

@@ -1,10 +1,11 @@
 -- A callee is written by the name that it has.
 use Rattle.std.proofs.Common.{◌≡◌, ℕ, Bool, true, false, cond, List, [], ◌∷◌, Option, Some, None, codes, refl, sym, ap, ◌∙◌, ⊎_elim}
-use Rattle.std.proofs.lemmas.Bool.{cases_Bool, cond-true, cond-false}
+use Rattle.std.proofs.lemmas.Bool.{and_parts, cases_Bool, cond-true, cond-false}
 use Rattle.std.proofs.lemmas.Option.{same_Some}
 use Rattle.std.proofs.lemmas.Slice.Eq.{bytes_eq-Decides}
-use Rattle.std.specs.List.{find}
+use Rattle.std.specs.List.{find, list_all}
 use Rattle.std.specs.Str.{bytes_eq}
+use Rattle.cell_values.specs.Name.{is_name}
 use Rattle.functions.specs.Functions.{all_functions, function_named, word_of}
 use Rattle.functions.specs.declared.functions.Function.{Function}
 use Rattle.formula_parse.specs.Callees.{callee_beside, callee_named, callee_text}
@@ -28,8 +29,27 @@ same_bytes a b h = (bytes_eq-Decides a b).0 h
 pub function_word : (name : List ℕ) (f : Function) → function_named name ≡ Some f → name ≡ word_of f
 function_word name f h = same_bytes name (word_of f) (found_passes (λ g. bytes_eq name (word_of g)) all_functions f h)
 
+-- what is found is one of the items
+found_among : {A : Type 0} (test all : A → Bool) (xs : List A) (x : A) → find test xs ≡ Some x → list_all all xs ≡ true → all x ≡ true
+found_among test all [] x h a = absurd (cc)
+found_among test all (y ∷ ys) x h a =
+    let parts = and_parts (all y) (list_all all ys) a in
+    ⊎_elim
+    (λ t. ap all (sym (same_Some y x (sym (cond-true _ _ _ t) ∙ h))) ∙ parts.0)
+    (λ f. found_among test all ys x (sym (cond-false _ _ _ f) ∙ h) parts.1)
+    (cases_Bool (test y))
+
+-- a name that a function has is a name, and names that function
+pub function_is_callee : (name : List ℕ) (f : Function) → function_named name ≡ Some f → Some (callees.BuiltIn f) ≡ cond (is_name name) (Some (callee_named name)) None
+unfolding callee_named
+function_is_callee name f h =
+    let named : is_name name ≡ true = ap is_name (function_word name f h) ∙ found_among (λ g. bytes_eq name (word_of g)) (λ g. is_name (word_of g)) all_functions f h refl in
+    let callee : callee_named name ≡ callees.BuiltIn f = ap (callee_beside name) h in
+    ap (λ x. Some x) (sym callee) ∙ sym (cond-true _ _ _ named)
+
 -- the text of the callee that a name has is the name
 pub text_of_name : (name : List ℕ) → callee_text (callee_named name) ≡ name
+unfolding callee_named
 text_of_name name = by_function (function_named name) refl
   where
     by_word : (is_rtd : Bool) → bytes_eq name (codes "RTD") ≡ is_rtd → callee_text (cond is_rtd callees.Rtd (callees.Added name)) ≡ name

@@ -1,14 +1,12 @@
 -- Reading a text turn by turn, as the code counts the turns.
 use Rattle.std.proofs.Common.{◌≡◌, ℕ, suc, ◌+◌, ◌-◌, ◌<◌, ◌≤◌, eqb, nat_lt, ◌&&◌, Bool, true, false, cond, List, [], ◌∷◌, length, drop, get_or, Result, Ok, Err, refl, ap, sym, ◌∙◌, ◌⊎◌, inl, inr, arith}
 use Rattle.std.proofs.lemmas.Bool.Decides.{nat_tests}
+use Rattle.std.proofs.lemmas.List.{drop-drop, at_drop_all}
 use Rattle.formula_parse.specs.declared.faults.ParseFault.{ParseFault}
 use Rattle.formula_parse.specs.declared.faults.ParseFault.TheVariants as faults
 use Rattle.formula_parse.specs.declared.nodes.Node.{Node}
 use Rattle.formula_parse.specs.declared.reader.Reader.{Reader}
-use Rattle.formula_parse.specs.declared.parser.Read.{Read as Told}
-use Rattle.formula_parse.specs.declared.parser.Read.TheVariants.{Formula, Token}
-use Rattle.formula_parse.specs.Turns.{read_of}
-use Rattle.formula_parse.specs.ReaderMachine.{Answer, Onward, first_reader, answer_behind, read_from, read_next, read_text}
+use Rattle.formula_parse.specs.ReaderMachine.{Answer, Onward, first_reader, answer_behind, at_end, gap_len, read_from, read_next, read_text, read_token, tree_at_end}
 
 -- reading begins behind the `=`
 pub begins : (text : List ℕ) (reader : Reader) → (nat_lt 0 (length text) && eqb (get_or text 0 0) 61) ≡ true → reader ≡ first_reader → read_text text ≡ read_from (length text - 0) reader 1 (drop 1 text)
@@ -62,17 +60,35 @@ turns_end text turns reader place l r =
     let n : length text - turns ≡ 0 = omega arith in
     sym (r ∙ ap (λ fuel. read_from fuel reader place (drop place text)) n)
 
--- a turn that answers a fault
-pub turn_faults : {R : Type 0} (text : List ℕ) (turns : ℕ) (reader : Reader) (place : ℕ) (fault : ParseFault) → turns < length text → Reads text turns reader place → (◌≡◌ {A = Result R ParseFault} (Err fault) (Err faults.Memory)) ⊎ (Answer (Err fault) ≡ read_next reader place (drop place text)) → (◌≡◌ {A = Result Node ParseFault} (Err fault) (Err faults.Memory)) ⊎ (Err fault ≡ read_text text)
-turn_faults {R} text turns reader place fault l r (inl e) = let is : fault ≡ faults.Memory = cc in inl (ap (λ x. Err x) is)
-turn_faults {R} text turns reader place fault l r (inr e) = inr (turn_answers text turns reader place (Err fault) l r e)
+-- the token behind the spaces is read
+pub behind_gap : (reader : Reader) (text : List ℕ) (place start : ℕ) → start ≡ place + gap_len (drop place text) → read_next reader place (drop place text) ≡ read_token reader start (drop start text)
+behind_gap reader text place start e =
+    ap (read_token reader (place + gap_len (drop place text))) (drop-drop (gap_len (drop place text)) place text)
+    ∙ ap (λ n. read_token reader n (drop n text)) (sym e)
 
--- a turn that reads the formula
-pub turn_ends : (text : List ℕ) (turns : ℕ) (reader : Reader) (place : ℕ) (read : Told) (root : Node) → turns < length text → Reads text turns reader place → (◌≡◌ {A = Result Told ParseFault} (Ok read) (Err faults.Memory)) ⊎ (read_of text (Ok read) ≡ read_next reader place (drop place text)) → read ≡ Formula root → Ok root ≡ read_text text
-turn_ends text turns reader place read root l r (inl e) is = absurd (cc)
-turn_ends text turns reader place read root l r (inr e) is = turn_answers text turns reader place (Ok root) l r (sym (ap (λ x. read_of text (Ok x)) is) ∙ e)
+-- at the end of the text nothing is left
+pub at_text_end : (reader : Reader) (text : List ℕ) (place start : ℕ) → start ≡ place + gap_len (drop place text) → start ≡ length text → read_next reader place (drop place text) ≡ Answer (at_end reader start (tree_at_end reader.phase reader.frames))
+at_text_end reader text place start e f = behind_gap reader text place start e ∙ at_drop_all (read_token reader start) text start (omega arith)
 
--- a turn that reads a token
-pub turn_reads : (text : List ℕ) (turns : ℕ) (reader next : Reader) (place behind : ℕ) (read : Told) → turns < length text → Reads text turns reader place → (◌≡◌ {A = Result Told ParseFault} (Ok read) (Err faults.Memory)) ⊎ (read_of text (Ok read) ≡ read_next reader place (drop place text)) → read ≡ Token next behind → Reads text (turns + 1) next behind
-turn_reads text turns reader next place behind read l r (inl e) is = absurd (cc)
-turn_reads text turns reader next place behind read l r (inr e) is = turn_goes_on text turns reader next place behind l r (sym (ap (λ x. read_of text (Ok x)) is) ∙ e)
+-- an answer at the end of the text, but for want of memory
+pub end_answers : (text : List ℕ) (turns : ℕ) (reader : Reader) (place start : ℕ) (fault : ParseFault) → turns < length text → Reads text turns reader place → start ≡ place + gap_len (drop place text) → start ≡ length text → (◌≡◌ {A = Result Node ParseFault} (Err fault) (Err faults.Memory)) ⊎ (Err fault ≡ at_end reader start (tree_at_end reader.phase reader.frames)) → (◌≡◌ {A = Result Node ParseFault} (Err fault) (Err faults.Memory)) ⊎ (◌≡◌ {A = Result Node ParseFault} (Err fault) (read_text text))
+end_answers text turns reader place start fault l r e f (inl m) = let is : fault ≡ faults.Memory = cc in inl (ap (λ x. Err x) is)
+end_answers text turns reader place start fault l r e f (inr h) =
+    inr (turn_answers text turns reader place (Err fault) l r (ap (λ answer. Answer answer) h ∙ sym (at_text_end reader text place start e f)))
+
+-- the formula that ends with the text
+pub end_reads : (text : List ℕ) (turns : ℕ) (reader : Reader) (place start : ℕ) (root : Node) → turns < length text → Reads text turns reader place → start ≡ place + gap_len (drop place text) → start ≡ length text → (◌≡◌ {A = Result Node ParseFault} (Ok root) (Err faults.Memory)) ⊎ (Ok root ≡ at_end reader start (tree_at_end reader.phase reader.frames)) → Ok root ≡ read_text text
+end_reads text turns reader place start root l r e f (inl m) = absurd (cc)
+end_reads text turns reader place start root l r e f (inr h) =
+    turn_answers text turns reader place (Ok root) l r (ap (λ answer. Answer answer) h ∙ sym (at_text_end reader text place start e f))
+
+-- a fault at a token, but for want of memory
+pub token_faults : (text : List ℕ) (turns : ℕ) (reader : Reader) (place start : ℕ) (fault : ParseFault) → turns < length text → Reads text turns reader place → start ≡ place + gap_len (drop place text) → (fault ≡ faults.Memory) ⊎ (Answer (Err fault) ≡ read_token reader start (drop start text)) → (◌≡◌ {A = Result Node ParseFault} (Err fault) (Err faults.Memory)) ⊎ (◌≡◌ {A = Result Node ParseFault} (Err fault) (read_text text))
+token_faults text turns reader place start fault l r e (inl m) = inl (ap (λ x. Err x) m)
+token_faults text turns reader place start fault l r e (inr h) =
+    inr (turn_answers text turns reader place (Err fault) l r (h ∙ sym (behind_gap reader text place start e)))
+
+-- a token that is taken
+pub token_reads : (text : List ℕ) (turns : ℕ) (reader next : Reader) (place start end : ℕ) → turns < length text → Reads text turns reader place → start ≡ place + gap_len (drop place text) → Onward next end (drop end text) ≡ read_token reader start (drop start text) → Reads text (turns + 1) next end
+token_reads text turns reader next place start end l r e h =
+    turn_goes_on text turns reader next place end l r (h ∙ sym (behind_gap reader text place start e))

@@ -1,5 +1,7 @@
 -- The calls of added functions, part by part.
-use Rattle.std.proofs.Common.{◌≡◌, ℕ, ◌≤◌, ℤ, Bool, List, [], ◌∷◌, ◌++◌, map, length, refl, sym, ap, ◌∙◌, arith}
+use Rattle.std.proofs.Common.{◌≡◌, ℕ, ◌+◌, ◌≤◌, ℤ, Bool, true, false, cond, List, [], ◌∷◌, ◌++◌, map, length, refl, sym, ap, ◌∙◌, arith}
+use mir.Val.{bool_byte}
+use Rattle.std.specs.Prelude.{is_some}
 use Rattle.std.specs.List.{filter_map}
 use Rattle.std.proofs.lemmas.List.Elements.{filter_map-append}
 use Rattle.cell_refs.specs.declared.references.RefText.{RefText}
@@ -8,7 +10,7 @@ use Rattle.cell_values.specs.declared.names.Name.{Name}
 use Rattle.cell_values.specs.declared.texts.Text.{Text}
 use Rattle.functions.specs.declared.functions.Function.{Function}
 use Rattle.formula_parse.specs.Callees.{added_name}
-use Rattle.formula_parse.specs.Tree.{calls_of, calls_step, concat, sites_named}
+use Rattle.formula_parse.specs.Tree.{calls_of, calls_step, concat, site_count, sites_named}
 use Rattle.formula_parse.specs.declared.callees.Callee.{Callee}
 use Rattle.formula_parse.specs.declared.callees.Callee.TheVariants as callees
 use Rattle.formula_parse.specs.declared.nodes.Node.{Node}
@@ -59,6 +61,17 @@ sites_of_rtd arguments = sites_of_call callees.Rtd arguments ∙ sites_of_parts 
 
 pub sites_of_added : (name : Name) (arguments : List Node) → sites_named (nodes.Call (callees.Added name) arguments) ≡ name ∷ concat (map sites_named arguments)
 sites_of_added name arguments = sites_of_call (callees.Added name) arguments ∙ ap (λ names. name ∷ names) (sites_of_parts arguments)
+
+-- a Boolean as a number
+pub byte_is : (b : Bool) → bool_byte b ≡ cond b 1 0
+byte_is true = refl
+byte_is false = refl
+
+-- how many sites a call has
+pub count_of_call : (callee : Callee) (arguments : List Node) → site_count (nodes.Call callee arguments) ≡ length (concat (map sites_named arguments)) + cond (is_some (added_name callee)) 1 0
+count_of_call (callees.BuiltIn f) arguments = omega (arith, ap length (sites_of_built_in f arguments))
+count_of_call callees.Rtd arguments = omega (arith, ap length (sites_of_rtd arguments))
+count_of_call (callees.Added name) arguments = omega (arith, ap length (sites_of_added name arguments))
 
 pub sites_of_parentheses : (inner : Node) → sites_named (nodes.Parentheses inner) ≡ sites_named inner
 sites_of_parentheses inner = ap (filter_map added_name) (fold_parentheses (List Callee) calls_step inner)

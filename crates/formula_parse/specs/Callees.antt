@@ -12,7 +12,7 @@ callee_beside name (Some f) = callees.BuiltIn f
 callee_beside name None = if bytes_eq name (codes "RTD") then callees.Rtd else callees.Added name
 
 -- the callee of a name in upper case: a function by its word, RTD, or an added function
-abbrev pub callee_named : List ℕ → Callee
+unfoldable pub callee_named : List ℕ → Callee
 callee_named name = callee_beside name (function_named name)
 
 -- the name that is written for a callee

@@ -20,6 +20,7 @@ impl Callee {
     ghost use Rattle.formula_parse.specs.Callees.{added_name, callee_named, callee_text, is_rtd};
 
     /// The callee of a name in upper case; None where the text is no name.
+    #[tactic(auto, unfolding(crate::specs::Callees::callee_named))]
     pub(crate) fn named(alloc: Global, name: &str) -> Result<Option<Callee>, AllocError>
         ensures { IfOk result (λ callee. callee
             ≡ (if is_name name.now then Some (callee_named name.now) else None)) }

@@ -3,6 +3,7 @@
 
 mod callees;
 mod faults;
+mod growing;
 mod laws;
 mod lexing;
 mod naming;

@@ -33,10 +33,10 @@ fn push_areas(node: &Node, home: u8, areas: &mut Vec<Area>) -> Result<(), Memory
         Node::Number(_) | Node::Text(_) | Node::Error(_) | Node::Boolean(_) => Ok(()),
         Node::Reference(reference) => push_area(Area::of(reference, reference, home), areas),
         Node::Area(first, second) => push_area(Area::of(first, second, home), areas),
-        Node::Call { arguments, .. } => push_all_areas(arguments.as_slice(), home, areas),
+        Node::Call { arguments, .. } => push_all_areas(arguments.get().as_slice(), home, areas),
         Node::Parentheses(inner) => push_areas(inner.get(), home, areas),
         Node::Negation { operand, .. } => push_areas(operand.get(), home, areas),
-        Node::Chain { operands, .. } => push_all_areas(operands.as_slice(), home, areas),
+        Node::Chain { operands, .. } => push_all_areas(operands.get().as_slice(), home, areas),
     }
 }
 
@@ -56,10 +56,8 @@ fn push_all_areas(nodes: &[Node], home: u8, areas: &mut Vec<Area>) -> Result<(),
 fn push_area(area: Area, areas: &mut Vec<Area>) -> Result<(), Memory>
     ensures { OnOk result (areas.new.items ≡ areas.old.items ++ area ∷ []) }
 {
-    match areas.push(area) {
-        Ok(()) => Ok(()),
-        Err(_) => Err(Memory),
-    }
+    areas.push(area)?;
+    Ok(())
 }
 
 /// How many calls a formula has of names that are neither built in nor `RTD`.
@@ -82,11 +80,11 @@ fn count_sites(node: &Node) -> u16
         | Node::Reference(_)
         | Node::Area(_, _) => 0,
         Node::Call { callee, arguments } => {
-            count_all_sites(arguments.as_slice()).saturating_add(u16::from(callee.is_added()))
+            count_all_sites(arguments.get().as_slice()).saturating_add(u16::from(callee.is_added()))
         }
         Node::Parentheses(inner) => count_sites(inner.get()),
         Node::Negation { operand, .. } => count_sites(operand.get()),
-        Node::Chain { operands, .. } => count_all_sites(operands.as_slice()),
+        Node::Chain { operands, .. } => count_all_sites(operands.get().as_slice()),
     }
 }
 
@@ -131,11 +129,11 @@ fn calls_any<T: CallTest>(node: &Node, test: &T) -> bool
         | Node::Reference(_)
         | Node::Area(_, _) => false,
         Node::Call { callee, arguments } => {
-            test.passes(callee) || all_calls_any(arguments.as_slice(), test)
+            test.passes(callee) || all_calls_any(arguments.get().as_slice(), test)
         }
         Node::Parentheses(inner) => calls_any(inner.get(), test),
         Node::Negation { operand, .. } => calls_any(operand.get(), test),
-        Node::Chain { operands, .. } => all_calls_any(operands.as_slice(), test),
+        Node::Chain { operands, .. } => all_calls_any(operands.get().as_slice(), test),
     }
 }
 

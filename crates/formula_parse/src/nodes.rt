@@ -15,7 +15,7 @@ pub enum Node {
     Area(RefText, RefText),
     Call {
         callee: Callee,
-        arguments: Items<Node>,
+        arguments: Boxed<Items<Node>>,
     },
     Parentheses(Boxed<Node>),
     Negation {
@@ -23,7 +23,7 @@ pub enum Node {
         operand: Boxed<Node>,
     },
     Chain {
-        operands: Items<Node>,
-        operators: Items<Operator>,
+        operands: Boxed<Items<Node>>,
+        operators: Boxed<Items<Operator>>,
     },
 }

@@ -1,10 +1,10 @@
-ghost use Rattle.std.specs.Prelude.{◌≡◌, ◌⊎◌, ◌↔◌, ◌<◌, ◌≤◌, ◌+◌, ℕ, [], length, drop, if◌then◌else◌, Some, IfOk, false};
+ghost use Rattle.std.specs.Prelude.{◌≡◌, ◌⊎◌, ◌↔◌, ◌<◌, ◌≤◌, ◌+◌, ℕ, length, drop, if◌then◌else◌, Some, Err, IfOk, IfErr, false};
 ghost use Rattle.formula_parse.specs.Lexing.{begun_len};
 ghost use Rattle.std.specs.Str.{chars};
 ghost use Rattle.formula_parse.specs.Faults.{IsFormula, IsShort, IsTooDeep, IsSyntaxFault, IsRangeFault, IsNumberFault};
-ghost use Rattle.formula_parse.specs.ReaderMachine.{read_text, read_from, read_next, at_end, tree_at_end, gap_len, first_reader, begun_behind, minuses_in, is_too_deep, Answer};
+ghost use Rattle.formula_parse.specs.ReaderMachine.{read_text, read_token, at_end, tree_at_end, gap_len, minuses_in, is_too_deep, Answer, Onward};
 ghost use Rattle.formula_parse.specs.Parsing.{formula_of, is_too_long, parse_result};
-ghost use Rattle.formula_parse.specs.Turns.{read_of, IsBefore, IsFormulaRead};
+ghost use Rattle.formula_parse.specs.Turns.{IsReadUpTo};
 
 use super::faults::ParseFault;
 use super::lexing::{begun_len, stands_at, token_at};
@@ -12,15 +12,6 @@ use super::nodes::Node;
 use super::reader::Reader;
 use super::trees::Tree;
 use std::alloc::Global;
-
-/// What was read.
-#[derive(Debug, Drop)]
-pub(crate) enum Read {
-    /// The whole text, which is this formula.
-    Formula(Node),
-    /// A token, the reader behind it and the place where it ends.
-    Token(Reader, usize),
-}
 
 /// The greatest number of characters of a formula.
 const CHARACTERS: usize = 8_192;
@@ -63,53 +54,48 @@ fn read_formula(alloc: Global, text: &str) -> Result<Tree, ParseFault>
     let mut reader = Reader::new(alloc)?;
     let mut place = 1;
     for _ in 0..text.len() {
-        match read_next(alloc, text, reader, place)? {
-            Read::Formula(root) => return Ok(Tree::new(alloc, root)?),
-            Read::Token(next, behind) => {
-                reader = next;
-                place = behind;
-            }
+        let start = gap_end(text, place);
+        if start == text.len() {
+            let root = read_end(alloc, reader, start)?;
+            return Ok(Tree::new(alloc, root)?);
         }
+        place = read_token(alloc, text, &mut reader, start)?;
     }
     Err(ParseFault::Syntax(place))
 }
 
-/// The next token of the text, or its end, behind the place up to which it was read.
-fn read_next(alloc: Global, text: &str, reader: Reader, place: usize) -> Result<Read, ParseFault>
+/// Lets the reader take the token at a place; the place where the token ends.
+fn read_token(
+    alloc: Global,
+    text: &str,
+    reader: &mut Reader,
+    place: usize,
+) -> Result<usize, ParseFault>
     requires short { length text.now ≤ 32768 }
-    requires within { place ≤ length text.now }
-    requires few { minuses_in reader.phase ≤ place }
-    requires shallow { is_too_deep reader.frames ≡ false }
-    ensures value { (result ≡ Err ParseFault.Memory)
-        ⊎ (read_of text.now result ≡ read_next reader place (drop place text.now)) }
-    ensures on { IfOk result (IsBefore (length text.now)) }
+    requires within { place < length text.now }
+    requires few { minuses_in reader.old.phase ≤ place }
+    requires shallow { is_too_deep reader.old.frames ≡ false }
+    ensures ok { IfOk result (λ end. Onward reader.new end (drop end text.now)
+        ≡ read_token reader.old place (drop place text.now)) }
+    ensures on { IfOk result (λ end. IsReadUpTo text.now end reader.new) }
+    ensures err { IfErr result (λ fault. (fault ≡ ParseFault.Memory)
+        ⊎ (Answer (Err fault) ≡ read_token reader.old place (drop place text.now))) }
 {
-    let place = place + gap_len(&text.as_bytes()[place..]);
-    if place == text.len() {
-        return read_end(reader, place);
-    }
-    let Some((token, len)) = token_at(alloc, text, place)? else {
-        return Err(fault_at(&reader, text, place));
-    };
     let awaits_operand = reader.awaits_operand();
-    match reader.with(alloc, token)? {
-        None => Err(fault_where(awaits_operand, text, place)),
-        Some(next) if next.is_too_deep() => Err(ParseFault::TooDeep),
-        Some(next) => Ok(Read::Token(next, place + len)),
+    let Some((token, len)) = token_at(alloc, text, place)? else {
+        return Err(fault_at(awaits_operand, text, place));
+    };
+    if !reader.take(alloc, token)? {
+        Err(fault_at(awaits_operand, text, place))
+    } else if reader.is_too_deep() {
+        Err(ParseFault::TooDeep)
+    } else {
+        Ok(place + len)
     }
-}
-
-/// The fault where no formula goes on with what stands at a place.
-fn fault_at(reader: &Reader, text: &str, place: usize) -> ParseFault
-    requires { place ≤ length text.now }
-    ensures { result ≡ ParseFault.Syntax (place + begun_behind reader.now.phase
-        (drop place text.now)) }
-{
-    fault_where(reader.awaits_operand(), text, place)
 }
 
 /// The fault at a place where no formula goes on, which an operand may have begun.
-fn fault_where(awaits_operand: bool, text: &str, place: usize) -> ParseFault
+fn fault_at(awaits_operand: bool, text: &str, place: usize) -> ParseFault
     requires { place ≤ length text.now }
     ensures { result ≡ ParseFault.Syntax (place +
         (if awaits_operand then begun_len (drop place text.now) else 0)) }
@@ -123,25 +109,33 @@ fn fault_where(awaits_operand: bool, text: &str, place: usize) -> ParseFault
 }
 
 /// The formula that ends at a place, or its fault.
-fn read_end(reader: Reader, place: usize) -> Result<Read, ParseFault>
-    ensures value { (result ≡ Err ParseFault.Memory)
-        ⊎ (read_of [] result ≡ Answer (at_end reader place
-        (tree_at_end reader.phase reader.frames))) }
-    ensures formula { IfOk result IsFormulaRead }
+fn read_end(alloc: Global, reader: Reader, place: usize) -> Result<Node, ParseFault>
+    ensures { (result ≡ Err ParseFault.Memory)
+        ⊎ (result ≡ at_end reader place (tree_at_end reader.phase reader.frames)) }
 {
     let has_wide_area = reader.has_wide_area;
     let has_large_number = reader.has_large_number;
-    match reader.ended()? {
+    match reader.ended(alloc)? {
         None => Err(ParseFault::Syntax(place)),
         Some(_) if has_wide_area => Err(ParseFault::BadRange),
         Some(_) if has_large_number => Err(ParseFault::NumberTooLarge),
-        Some(root) => Ok(Read::Formula(root)),
+        Some(root) => Ok(root),
     }
 }
 
-/// How many spaces stand at the front.
+/// Where the spaces at a place end.
+fn gap_end(text: &str, place: usize) -> usize
+    requires { place ≤ length text.now }
+    ensures value { result ≡ place + gap_len (drop place text.now) }
+    ensures within { result ≤ length text.now }
+{
+    place + gap_len(&text.as_bytes()[place..])
+}
+
+/// How many spaces a text begins with.
 fn gap_len(text: &[u8]) -> usize
-    ensures { result ≡ gap_len text.now }
+    ensures value { result ≡ gap_len text.now }
+    ensures within { result ≤ length text.now }
 {
     text.iter().take_while(|byte| **byte == b' ').count()
 }

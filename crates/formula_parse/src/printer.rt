@@ -56,7 +56,7 @@ fn push_node(node: &Node, out: &mut Vec<u8>) -> Result<(), Memory>
         Node::Call { callee, arguments } => {
             push_bytes(callee.text().as_bytes(), out)?;
             push_bytes(b"(", out)?;
-            push_arguments(arguments.as_slice(), out)?;
+            push_arguments(arguments.get().as_slice(), out)?;
             push_bytes(b")", out)
         }
         Node::Parentheses(inner) => {
@@ -71,7 +71,7 @@ fn push_node(node: &Node, out: &mut Vec<u8>) -> Result<(), Memory>
         Node::Chain {
             operands,
             operators,
-        } => push_chain(operands.as_slice(), operators.as_slice(), out),
+        } => push_chain(operands.get().as_slice(), operators.get().as_slice(), out),
     }
 }
 
@@ -156,10 +156,8 @@ fn push_bytes(bytes: &[u8], out: &mut Vec<u8>) -> Result<(), Memory>
     ensures ok { OnOk result (out.new.items ≡ out.old.items ++ bytes.now) }
     ensures err { OnErr result (out.new.items ≡ out.old.items) }
 {
-    match out.extend_from_slice(bytes) {
-        Ok(()) => Ok(()),
-        Err(_) => Err(Memory),
-    }
+    out.extend_from_slice(bytes)?;
+    Ok(())
 }
 
 /// An operator as it is written.

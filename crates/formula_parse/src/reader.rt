@@ -4,17 +4,17 @@ mod chains;
 mod operands;
 mod operators;
 
-ghost use Rattle.std.specs.Prelude.{◌≡◌, ◌+◌, ◌<◌, ◌≤◌, ◌^◌, Some, IfOk, false};
+ghost use Rattle.std.specs.Prelude.{◌≡◌, ◌+◌, ◌<◌, ◌≤◌, ◌^◌, Some, None, IfOk, false, if◌then◌else◌};
 ghost use Rattle.formula_parse.specs.ReaderMachine.{reader_behind, turn_at, first_reader, is_too_deep, tree_at_end, awaits_operand, minuses_in, calls_open};
 ghost use Rattle.formula_parse.specs.Tokens.{is_wide_area, is_large_number};
 
 use super::callees::Callee;
+use super::growing::Growing;
 use super::nodes::Node;
 use super::operators::Operator;
 use super::stack::Stack;
 use super::tokens::Token;
 use cell_refs::Area;
-use sqlite_items::Items;
 use std::alloc::{AllocError, Global};
 
 /// The most cells of an area.
@@ -29,8 +29,8 @@ const DEPTH: usize = 128;
 /// A chain that goes on: each of its operands is followed by an operator of one place of the grammar.
 #[derive(Debug, Drop)]
 pub(crate) struct OpenChain {
-    pub(crate) operands: Items<Node>,
-    pub(crate) operators: Items<Operator>,
+    pub(crate) operands: Growing<Node>,
+    pub(crate) operators: Growing<Operator>,
 }
 
 /// What is open.
@@ -42,7 +42,7 @@ pub(crate) enum Opened {
     /// A call, and its arguments so far.
     Call {
         callee: Callee,
-        arguments: Items<Node>,
+        arguments: Growing<Node>,
     },
 }
 
@@ -81,46 +81,32 @@ pub(crate) struct Reader {
     pub(crate) has_large_number: bool,
 }
 
-/// What a token makes of the phase and the frames.
-pub(crate) type Turn = Option<(Phase, Stack<Frame>)>;
-
 impl Reader {
     /// The reader behind the `=` of a formula.
     pub(crate) fn new(alloc: Global) -> Result<Reader, AllocError>
         ensures { IfOk result (λ reader. reader ≡ first_reader) }
     {
-        let formula = Frame {
-            opened: Opened::Formula,
-            minuses: 0,
-            calls: 0,
-            chains: Stack::new(alloc),
-        };
+        let mut frames = Stack::new(alloc);
+        operands::open(alloc, Opened::Formula, 0, 0, &mut frames)?;
         Ok(Reader {
             phase: Phase::Signs(0),
-            frames: Stack::new(alloc).with(formula)?,
+            frames,
             has_wide_area: false,
             has_large_number: false,
         })
     }
 
-    /// The reader behind a token; None where no formula goes on with it.
+    /// Takes a token. False where no formula goes on with it; no more is to be asked of the reader then.
     #[tactic(auto, unfolding(crate::specs::ReaderMachine::reader_behind))]
-    pub(crate) fn with(self, alloc: Global, token: Token) -> Result<Option<Reader>, AllocError>
-        requires few { minuses_in self.phase + 1 < 2 ^ 32 }
-        requires shallow { is_too_deep self.frames ≡ false }
-        ensures { IfOk result (λ next. next ≡ reader_behind self token) }
+    pub(crate) fn take(&mut self, alloc: Global, token: Token) -> Result<bool, AllocError>
+        requires few { minuses_in self.old.phase + 1 < 2 ^ 32 }
+        requires shallow { is_too_deep self.old.frames ≡ false }
+        ensures { IfOk result (λ is_taken. reader_behind self.old token
+            ≡ (if is_taken then Some self.new else None)) }
     {
-        let has_wide_area = self.has_wide_area || is_wide_area(&token);
-        let has_large_number = self.has_large_number || is_large_number(&token);
-        match turn(alloc, self.phase, self.frames, token)? {
-            Some((phase, frames)) => Ok(Some(Reader {
-                phase,
-                frames,
-                has_wide_area,
-                has_large_number,
-            })),
-            None => Ok(None),
-        }
+        self.has_wide_area = self.has_wide_area || is_wide_area(&token);
+        self.has_large_number = self.has_large_number || is_large_number(&token);
+        turn(alloc, &mut self.phase, &mut self.frames, token)
     }
 
     /// Whether more than 64 calls, or more than 128 calls and parentheses, are open.
@@ -131,10 +117,10 @@ impl Reader {
     }
 
     /// The formula's tree, where it may end here.
-    pub(crate) fn ended(self) -> Result<Option<Node>, AllocError>
+    pub(crate) fn ended(self, alloc: Global) -> Result<Option<Node>, AllocError>
         ensures { IfOk result (λ tree. tree ≡ tree_at_end self.phase self.frames) }
     {
-        operators::ended(self.phase, self.frames)
+        operators::ended(alloc, self.phase, self.frames)
     }
 
     /// Whether an operand is awaited.
@@ -145,19 +131,25 @@ impl Reader {
     }
 }
 
-/// What a token makes of the phase and the frames.
-fn turn(alloc: Global, phase: Phase, frames: Stack<Frame>, token: Token) -> Result<Turn, AllocError>
-    requires few { minuses_in phase + 1 < 2 ^ 32 }
-    requires shallow { is_too_deep frames ≡ false }
-    ensures { IfOk result (λ turn. turn ≡ turn_at phase frames token) }
+/// Lets the phase and the frames take a token.
+fn turn(
+    alloc: Global,
+    phase: &mut Phase,
+    frames: &mut Stack<Frame>,
+    token: Token,
+) -> Result<bool, AllocError>
+    requires few { minuses_in phase.old + 1 < 2 ^ 32 }
+    requires shallow { is_too_deep frames.old ≡ false }
+    ensures { IfOk result (λ is_taken. turn_at phase.old frames.old token
+        ≡ (if is_taken then Some (phase.new, frames.new) else None)) }
 {
-    match phase {
+    match std::mem::replace(phase, Phase::Start) {
         Phase::Start => match token {
-            Token::Close => Ok(operands::empty_call(alloc, frames)?),
-            token => operands::operand(alloc, 0, frames, token),
+            Token::Close => operands::close_empty(alloc, phase, frames),
+            token => operands::operand(alloc, 0, phase, frames, token),
         },
-        Phase::Signs(minuses) => operands::operand(alloc, minuses, frames, token),
-        Phase::After(operand) => operators::after(alloc, operand, frames, token),
+        Phase::Signs(minuses) => operands::operand(alloc, minuses, phase, frames, token),
+        Phase::After(operand) => operators::after(alloc, operand, phase, frames, token),
     }
 }
 

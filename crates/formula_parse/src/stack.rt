@@ -1,4 +1,4 @@
-ghost use Rattle.std.specs.Prelude.{◌≡◌, [], ◌∷◌, ◌++◌, length, reverse, slice_get, IfOk, MatchOption};
+ghost use Rattle.std.specs.Prelude.{◌≡◌, [], ◌∷◌, ◌++◌, length, reverse, slice_get, OnOk, MatchOption};
 ghost use Rattle.std.specs.Option.{option_copied};
 
 use std::alloc::{AllocError, Global};
@@ -36,24 +36,20 @@ impl<T: Drop> Stack<T> {
         self.items.len()
     }
 
-    /// The stack with one more item on top.
-    pub(crate) fn with(self, item: T) -> Result<Stack<T>, AllocError>
-        ensures { IfOk result (λ stack. stack ≡ item ∷ self) }
+    /// Puts an item on top.
+    pub(crate) fn push(&mut self, item: T) -> Result<(), AllocError>
+        ensures { OnOk result (self.new ≡ item ∷ self.old) }
     {
-        let Stack { mut items } = self;
-        items.push(item)?;
-        Ok(Stack { items })
+        self.items.push(item)?;
+        Ok(())
     }
 
-    /// The top item and the stack below it; None where the stack is empty.
-    pub(crate) fn split(self) -> Option<(T, Stack<T>)>
-        ensures { MatchOption result (self ≡ []) (λ parts. self ≡ parts.0 ∷ parts.1) }
+    /// Takes the top item off; None where the stack is empty.
+    pub(crate) fn pop(&mut self) -> Option<T>
+        ensures { MatchOption result ((self.old ≡ []) × (self.new ≡ []))
+            (λ top. self.old ≡ top ∷ self.new) }
     {
-        let Stack { mut items } = self;
-        match items.pop() {
-            Some(item) => Some((item, Stack { items })),
-            None => None,
-        }
+        self.items.pop()
     }
 
     /// The top item.

@@ -1,5 +1,5 @@
 use super::faults::ParseFault;
-use super::naming::{names, sites};
+use super::naming::{has_rtd_call, names, sites};
 use super::nodes::Node;
 use super::parser::parse;
 use super::printer::print;
@@ -236,7 +236,7 @@ fn lengths_are_limited(rt: HostRuntime) -> Result<(), Fail> {
 /// How many operands the chain has that a tree is, 0 where it is none.
 fn operands(node: &Node) -> usize {
     match node {
-        Node::Chain { operands, .. } => operands.len(),
+        Node::Chain { operands, .. } => operands.get().len(),
         _ => 0,
     }
 }
@@ -295,6 +295,22 @@ fn sites_are_calls_that_are_not_built_in(rt: HostRuntime) -> Result<(), Fail> {
     for (text, count) in table {
         let tree = parse(rt.alloc(), text)?;
         assert_eq!(rt; sites(&tree), count, "in {text}");
+    }
+    Ok(())
+}
+
+#[test]
+fn calls_of_rtd_are_found(rt: HostRuntime) -> Result<(), Fail> {
+    let table = [
+        ("=1+SUM(2)", false),
+        ("=rtd(\"f\",\"\",\"a\")", true),
+        ("=-(1+IF(TRUE,2,RTD(\"f\",\"\",\"a\")))", true),
+        ("=RTDS(1)", false),
+        ("=\"RTD(1)\"", false),
+    ];
+    for (text, is_there) in table {
+        let tree = parse(rt.alloc(), text)?;
+        assert_eq!(rt; has_rtd_call(&tree), is_there, "in {text}");
     }
     Ok(())
 }

@@ -53,9 +53,8 @@ impl Tree {
     pub fn copy(&self) -> Result<Tree, Memory>
         ensures { IfOk result (λ copy. copy ≡ self.now) }
     {
-        match Arc::try_clone(&self.root) {
-            Ok(root) => Ok(Tree { root }),
-            Err(_) => Err(Memory),
-        }
+        Ok(Tree {
+            root: Arc::try_clone(&self.root)?,
+        })
     }
 }

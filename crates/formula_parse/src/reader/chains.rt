@@ -1,12 +1,13 @@
-ghost use Rattle.std.specs.Prelude.{◌≡◌, [], ◌++◌, ◌∷◌, IfOk};
+ghost use Rattle.std.specs.Prelude.{◌≡◌, [], ◌++◌, ◌∷◌, IfOk, OnOk};
 ghost use Rattle.formula_parse.specs.Grammar.{place_of};
 ghost use Rattle.formula_parse.specs.ReaderMachine.{place_of_chain, chain_node, operand_in_chains, tree_of_chains, is_tighter, chains_behind, chains_with, signed_node};
 
+use super::super::growing::Growing;
 use super::super::nodes::Node;
 use super::super::operators::Operator;
 use super::super::stack::Stack;
 use super::OpenChain;
-use sqlite_items::{Boxed, Items};
+use sqlite_items::Boxed;
 use std::alloc::{AllocError, Global};
 
 /// An operand behind signs of which so many are `-`.
@@ -28,28 +29,27 @@ impl OpenChain {
         ensures { IfOk result (λ chain. (chain.operands ≡ operand ∷ [])
             × (chain.operators ≡ operator ∷ [])) }
     {
-        let mut operands = Items::new(alloc);
-        operands.push(operand)?;
-        let mut operators = Items::new(alloc);
-        operators.push(operator)?;
-        Ok(OpenChain {
-            operands,
-            operators,
-        })
+        let mut chain = OpenChain {
+            operands: Growing::new(alloc),
+            operators: Growing::new(alloc),
+        };
+        chain.operands.push(operand)?;
+        chain.operators.push(operator)?;
+        Ok(chain)
     }
 
     /// The place of its operators in the grammar.
     fn place(&self) -> usize
         ensures { result ≡ place_of_chain self.now }
     {
-        match self.operators.get(0) {
+        match self.operators.first() {
             Some(operator) => operator.place(),
             None => 0,
         }
     }
 
     /// The chain with its last operand.
-    fn closed(self, last: Node) -> Result<Node, AllocError>
+    fn closed(self, alloc: Global, last: Node) -> Result<Node, AllocError>
         ensures { IfOk result (λ node. node ≡ chain_node self last) }
     {
         let OpenChain {
@@ -58,31 +58,30 @@ impl OpenChain {
         } = self;
         operands.push(last)?;
         Ok(Node::Chain {
-            operands,
-            operators,
+            operands: operands.whole(alloc)?,
+            operators: operators.whole(alloc)?,
         })
     }
 }
 
-/// The operand with the chains closed round it that are tighter than the place, and the other chains.
+/// Takes off the chains that are tighter than the place; the operand with these closed round it.
 fn bound(
     alloc: Global,
     place: usize,
     operand: Node,
-    chains: Stack<OpenChain>,
-) -> Result<(Node, Stack<OpenChain>), AllocError>
-    ensures { IfOk result (λ parts. parts ≡ operand_in_chains place operand chains) }
+    chains: &mut Stack<OpenChain>,
+) -> Result<Node, AllocError>
+    ensures { IfOk result (λ node. (node, chains.new)
+        ≡ operand_in_chains place operand chains.old) }
 {
     let mut operand = operand;
-    let mut chains = chains;
-    while is_tighter(&chains, place) {
-        let Some((chain, rest)) = chains.split() else {
-            return Ok((operand, Stack::new(alloc)));
+    while is_tighter(chains, place) {
+        let Some(chain) = chains.pop() else {
+            return Ok(operand);
         };
-        operand = chain.closed(operand)?;
-        chains = rest;
+        operand = chain.closed(alloc, operand)?;
     }
-    Ok((operand, chains))
+    Ok(operand)
 }
 
 /// Whether the tightest chain is tighter than a place.
@@ -96,57 +95,51 @@ fn is_tighter(chains: &Stack<OpenChain>, place: usize) -> bool
 }
 
 /// The operand with all chains closed round it.
-pub(super) fn finished(operand: Node, chains: Stack<OpenChain>) -> Result<Node, AllocError>
+pub(super) fn finished(
+    alloc: Global,
+    operand: Node,
+    chains: Stack<OpenChain>,
+) -> Result<Node, AllocError>
     ensures { IfOk result (λ node. node ≡ tree_of_chains operand chains) }
 {
     let mut operand = operand;
     let mut chains = chains;
-    while let Some((chain, rest)) = chains.split() {
-        operand = chain.closed(operand)?;
-        chains = rest;
+    while let Some(chain) = chains.pop() {
+        operand = chain.closed(alloc, operand)?;
     }
     Ok(operand)
 }
 
-/// The chains with an operand and the operator behind it.
-pub(super) fn joined(
+/// Adds an operand and the operator behind it to the chains.
+pub(super) fn join(
     alloc: Global,
     operand: Node,
     operator: Operator,
-    chains: Stack<OpenChain>,
-) -> Result<Stack<OpenChain>, AllocError>
-    ensures { IfOk result (λ next. next ≡ chains_behind operand operator chains) }
+    chains: &mut Stack<OpenChain>,
+) -> Result<(), AllocError>
+    ensures { OnOk result (chains.new ≡ chains_behind operand operator chains.old) }
 {
-    let (operand, chains) = bound(alloc, operator.place(), operand, chains)?;
-    match chains.split() {
-        None => Stack::new(alloc).with(OpenChain::new(alloc, operand, operator)?),
-        Some((chain, rest)) => chained(alloc, operand, operator, chain, rest),
-    }
+    let operand = bound(alloc, operator.place(), operand, chains)?;
+    link(alloc, operand, operator, chains)
 }
 
-/// The chains with an operand and an operator that isn't looser than the tightest chain.
-fn chained(
+/// Adds an operand and an operator to the chains, none of which is tighter than the operator.
+fn link(
     alloc: Global,
     operand: Node,
     operator: Operator,
-    chain: OpenChain,
-    rest: Stack<OpenChain>,
-) -> Result<Stack<OpenChain>, AllocError>
-    ensures { IfOk result (λ next. next ≡ chains_with operator (operand, chain ∷ rest)) }
+    chains: &mut Stack<OpenChain>,
+) -> Result<(), AllocError>
+    ensures { OnOk result (chains.new ≡ chains_with operator (operand, chains.old)) }
 {
-    if chain.place() != operator.place() {
-        return rest
-            .with(chain)?
-            .with(OpenChain::new(alloc, operand, operator)?);
+    let Some(mut chain) = chains.pop() else {
+        return chains.push(OpenChain::new(alloc, operand, operator)?);
+    };
+    if chain.place() == operator.place() {
+        chain.operands.push(operand)?;
+        chain.operators.push(operator)?;
+        return chains.push(chain);
     }
-    let OpenChain {
-        mut operands,
-        mut operators,
-    } = chain;
-    operands.push(operand)?;
-    operators.push(operator)?;
-    rest.with(OpenChain {
-        operands,
-        operators,
-    })
+    chains.push(chain)?;
+    chains.push(OpenChain::new(alloc, operand, operator)?)
 }

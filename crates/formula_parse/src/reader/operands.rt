@@ -1,43 +1,56 @@
-ghost use Rattle.std.specs.Prelude.{◌≡◌, ◌+◌, ◌<◌, ◌^◌, false, IfOk};
-ghost use Rattle.formula_parse.specs.ReaderMachine.{operand_turn, empty_call, after_operand, operand_of, with_frame, calls_open, is_too_deep};
+ghost use Rattle.std.specs.Prelude.{◌≡◌, ◌+◌, ◌<◌, ◌^◌, false, IfOk, OnOk, Some, None, if◌then◌else◌};
+ghost use Rattle.formula_parse.specs.ReaderMachine.{operand_turn, empty_call, operand_of, with_frame, calls_open, is_too_deep};
 
+use super::super::growing::Growing;
 use super::super::nodes::Node;
 use super::super::operators::Operator;
 use super::super::stack::Stack;
 use super::super::tokens::Token;
 use super::chains::negated;
-use super::{Frame, Opened, Phase, Turn, calls_open};
-use sqlite_items::Items;
+use super::{Frame, Opened, Phase, calls_open};
 use std::alloc::{AllocError, Global};
 
-/// A token where an operand or a sign may stand, behind so many `-`.
+/// Takes a token where an operand or a sign may stand, behind so many `-`.
 pub(super) fn operand(
     alloc: Global,
     minuses: u32,
-    frames: Stack<Frame>,
+    phase: &mut Phase,
+    frames: &mut Stack<Frame>,
     token: Token,
-) -> Result<Turn, AllocError>
+) -> Result<bool, AllocError>
     requires few { minuses + 1 < 2 ^ 32 }
-    requires shallow { is_too_deep frames ≡ false }
-    ensures { IfOk result (λ turn. turn ≡ operand_turn minuses frames token) }
+    requires shallow { is_too_deep frames.old ≡ false }
+    ensures { IfOk result (λ is_taken. operand_turn minuses frames.old token
+        ≡ (if is_taken then Some (phase.new, frames.new) else None)) }
 {
     match token {
-        Token::Operator(Operator::Add) => Ok(Some((Phase::Signs(minuses), frames))),
-        Token::Operator(Operator::Subtract) => Ok(Some((Phase::Signs(minuses + 1), frames))),
+        Token::Operator(Operator::Add) => *phase = Phase::Signs(minuses),
+        Token::Operator(Operator::Subtract) => *phase = Phase::Signs(minuses + 1),
         Token::Open => {
-            let calls = calls_open(&frames);
-            let frames = with_frame(alloc, Opened::Parentheses, minuses, calls, frames)?;
-            Ok(Some((Phase::Signs(0), frames)))
+            let calls = calls_open(frames);
+            open(alloc, Opened::Parentheses, minuses, calls, frames)?;
+            *phase = Phase::Signs(0);
         }
         Token::Call(callee) => {
-            let calls = calls_open(&frames) + 1;
-            let arguments = Items::new(alloc);
-            let opened = Opened::Call { callee, arguments };
-            let frames = with_frame(alloc, opened, minuses, calls, frames)?;
-            Ok(Some((Phase::Start, frames)))
+            let calls = calls_open(frames) + 1;
+            let arguments = Growing::new(alloc);
+            open(
+                alloc,
+                Opened::Call { callee, arguments },
+                minuses,
+                calls,
+                frames,
+            )?;
+            *phase = Phase::Start;
         }
-        token => after_operand(alloc, minuses, frames, own_operand(token)),
+        token => {
+            let Some(operand) = own_operand(token) else {
+                return Ok(false);
+            };
+            *phase = Phase::After(negated(alloc, minuses, operand)?);
+        }
     }
+    Ok(true)
 }
 
 /// The operand that a token is by itself.
@@ -55,32 +68,17 @@ fn own_operand(token: Token) -> Option<Node>
     }
 }
 
-/// What stands behind an operand and its signs, where there is an operand.
-pub(super) fn after_operand(
-    alloc: Global,
-    minuses: u32,
-    frames: Stack<Frame>,
-    operand: Option<Node>,
-) -> Result<Turn, AllocError>
-    ensures { IfOk result (λ turn. turn ≡ after_operand minuses frames operand) }
-{
-    match operand {
-        Some(operand) => Ok(Some((Phase::After(negated(alloc, minuses, operand)?), frames))),
-        None => Ok(None),
-    }
-}
-
-/// The frames with a new one behind so many `-`.
-pub(super) fn with_frame(
+/// Opens a frame behind so many `-`.
+pub(super) fn open(
     alloc: Global,
     opened: Opened,
     minuses: u32,
     calls: usize,
-    frames: Stack<Frame>,
-) -> Result<Stack<Frame>, AllocError>
-    ensures { IfOk result (λ next. next ≡ with_frame opened minuses calls frames) }
+    frames: &mut Stack<Frame>,
+) -> Result<(), AllocError>
+    ensures { OnOk result (frames.new ≡ with_frame opened minuses calls frames.old) }
 {
-    frames.with(Frame {
+    frames.push(Frame {
         opened,
         minuses,
         calls,
@@ -88,23 +86,28 @@ pub(super) fn with_frame(
     })
 }
 
-/// The `)` of a call without arguments.
-pub(super) fn empty_call(alloc: Global, frames: Stack<Frame>) -> Result<Turn, AllocError>
-    ensures { IfOk result (λ turn. turn ≡ empty_call frames) }
+/// Takes the `)` of a call without arguments.
+pub(super) fn close_empty(
+    alloc: Global,
+    phase: &mut Phase,
+    frames: &mut Stack<Frame>,
+) -> Result<bool, AllocError>
+    ensures { IfOk result (λ is_taken. empty_call frames.old
+        ≡ (if is_taken then Some (phase.new, frames.new) else None)) }
 {
-    let Some((frame, frames)) = frames.split() else {
-        return Ok(None);
+    let Some(frame) = frames.pop() else {
+        return Ok(false);
     };
     let Frame {
         opened,
         minuses,
         ..
     } = frame;
-    match opened {
-        Opened::Call { callee, arguments } => {
-            let call = Node::Call { callee, arguments };
-            after_operand(alloc, minuses, frames, Some(call))
-        }
-        _ => Ok(None),
-    }
+    let Opened::Call { callee, arguments } = opened else {
+        return Ok(false);
+    };
+    let arguments = arguments.whole(alloc)?;
+    let call = Node::Call { callee, arguments };
+    *phase = Phase::After(negated(alloc, minuses, call)?);
+    Ok(true)
 }

@@ -1,68 +1,77 @@
-ghost use Rattle.std.specs.Prelude.{◌≡◌, IfOk};
-ghost use Rattle.formula_parse.specs.ReaderMachine.{after_turn, operator_turn, close_turn, comma_turn, closing, with_argument, tree_at_end, whole_tree};
+ghost use Rattle.std.specs.Prelude.{◌≡◌, IfOk, Some, None, if◌then◌else◌};
+ghost use Rattle.formula_parse.specs.ReaderMachine.{after_turn, operator_turn, close_turn, comma_turn, closing, with_argument, tree_at_end};
 
 use super::super::nodes::Node;
 use super::super::operators::Operator;
 use super::super::stack::Stack;
 use super::super::tokens::Token;
-use super::chains::{finished, joined};
-use super::operands::{after_operand, with_frame};
-use super::{Frame, Opened, Phase, Turn};
+use super::chains::{finished, join, negated};
+use super::operands::open;
+use super::{Frame, Opened, Phase};
 use sqlite_items::Boxed;
 use std::alloc::{AllocError, Global};
 
 /// The most arguments of a call.
 const ARGUMENTS: usize = 255;
 
-/// A token behind an operand.
+/// Takes a token behind an operand.
 pub(super) fn after(
     alloc: Global,
     operand: Node,
-    frames: Stack<Frame>,
+    phase: &mut Phase,
+    frames: &mut Stack<Frame>,
     token: Token,
-) -> Result<Turn, AllocError>
-    ensures { IfOk result (λ turn. turn ≡ after_turn operand frames token) }
+) -> Result<bool, AllocError>
+    ensures { IfOk result (λ is_taken. after_turn operand frames.old token
+        ≡ (if is_taken then Some (phase.new, frames.new) else None)) }
 {
     match token {
-        Token::Operator(operator) => after_operator(alloc, operand, operator, frames),
-        Token::Close => close(alloc, operand, frames),
-        Token::Comma => comma(alloc, operand, frames),
-        _ => Ok(None),
+        Token::Operator(operator) => after_operator(alloc, operand, operator, phase, frames),
+        Token::Close => close(alloc, operand, phase, frames),
+        Token::Comma => comma(alloc, operand, phase, frames),
+        _ => Ok(false),
     }
 }
 
-/// An operator behind an operand.
+/// Takes an operator behind an operand.
 fn after_operator(
     alloc: Global,
     operand: Node,
     operator: Operator,
-    frames: Stack<Frame>,
-) -> Result<Turn, AllocError>
-    ensures { IfOk result (λ turn. turn ≡ operator_turn operand operator frames) }
+    phase: &mut Phase,
+    frames: &mut Stack<Frame>,
+) -> Result<bool, AllocError>
+    ensures { IfOk result (λ is_taken. operator_turn operand operator frames.old
+        ≡ (if is_taken then Some (phase.new, frames.new) else None)) }
 {
-    let Some((frame, frames)) = frames.split() else {
-        return Ok(None);
+    let Some(mut frame) = frames.pop() else {
+        return Ok(false);
     };
-    let chains = joined(alloc, operand, operator, frame.chains)?;
-    let frames = frames.with(Frame {
-        opened: frame.opened,
-        minuses: frame.minuses,
-        calls: frame.calls,
-        chains,
-    })?;
-    Ok(Some((Phase::Signs(0), frames)))
+    join(alloc, operand, operator, &mut frame.chains)?;
+    frames.push(frame)?;
+    *phase = Phase::Signs(0);
+    Ok(true)
 }
 
-/// A `)` behind an operand.
-fn close(alloc: Global, operand: Node, frames: Stack<Frame>) -> Result<Turn, AllocError>
-    ensures { IfOk result (λ turn. turn ≡ close_turn operand frames) }
+/// Takes a `)` behind an operand.
+fn close(
+    alloc: Global,
+    operand: Node,
+    phase: &mut Phase,
+    frames: &mut Stack<Frame>,
+) -> Result<bool, AllocError>
+    ensures { IfOk result (λ is_taken. close_turn operand frames.old
+        ≡ (if is_taken then Some (phase.new, frames.new) else None)) }
 {
-    let Some((frame, frames)) = frames.split() else {
-        return Ok(None);
+    let Some(frame) = frames.pop() else {
+        return Ok(false);
     };
-    let last = finished(operand, frame.chains)?;
-    let closed = closing(alloc, frame.opened, last)?;
-    after_operand(alloc, frame.minuses, frames, closed)
+    let last = finished(alloc, operand, frame.chains)?;
+    let Some(closed) = closing(alloc, frame.opened, last)? else {
+        return Ok(false);
+    };
+    *phase = Phase::After(negated(alloc, frame.minuses, closed)?);
+    Ok(true)
 }
 
 /// What a `)` makes of what is open, whose last part this is.
@@ -77,26 +86,32 @@ fn closing(alloc: Global, opened: Opened, last: Node) -> Result<Option<Node>, Al
             mut arguments,
         } => {
             arguments.push(last)?;
+            let arguments = arguments.whole(alloc)?;
             Ok(Some(Node::Call { callee, arguments }))
         }
     }
 }
 
-/// A `,` behind an operand.
-fn comma(alloc: Global, operand: Node, frames: Stack<Frame>) -> Result<Turn, AllocError>
-    ensures { IfOk result (λ turn. turn ≡ comma_turn operand frames) }
+/// Takes a `,` behind an operand.
+fn comma(
+    alloc: Global,
+    operand: Node,
+    phase: &mut Phase,
+    frames: &mut Stack<Frame>,
+) -> Result<bool, AllocError>
+    ensures { IfOk result (λ is_taken. comma_turn operand frames.old
+        ≡ (if is_taken then Some (phase.new, frames.new) else None)) }
 {
-    let Some((frame, frames)) = frames.split() else {
-        return Ok(None);
+    let Some(frame) = frames.pop() else {
+        return Ok(false);
     };
-    let last = finished(operand, frame.chains)?;
-    match with_argument(frame.opened, last)? {
-        Some(opened) => {
-            let outer = with_frame(alloc, opened, frame.minuses, frame.calls, frames)?;
-            Ok(Some((Phase::Signs(0), outer)))
-        }
-        None => Ok(None),
-    }
+    let last = finished(alloc, operand, frame.chains)?;
+    let Some(opened) = with_argument(frame.opened, last)? else {
+        return Ok(false);
+    };
+    open(alloc, opened, frame.minuses, frame.calls, frames)?;
+    *phase = Phase::Signs(0);
+    Ok(true)
 }
 
 /// A call with one more argument, where a further one may follow.
@@ -116,14 +131,19 @@ fn with_argument(opened: Opened, last: Node) -> Result<Option<Opened>, AllocErro
 }
 
 /// The formula's tree, where it may end in this phase and these frames.
-pub(super) fn ended(phase: Phase, frames: Stack<Frame>) -> Result<Option<Node>, AllocError>
+pub(super) fn ended(
+    alloc: Global,
+    phase: Phase,
+    frames: Stack<Frame>,
+) -> Result<Option<Node>, AllocError>
     ensures { IfOk result (λ tree. tree ≡ tree_at_end phase frames) }
 {
     let Phase::After(operand) = phase else {
         return Ok(None);
     };
-    match frames.split() {
-        Some((frame, rest)) if rest.len() == 0 => Ok(Some(finished(operand, frame.chains)?)),
+    let mut frames = frames;
+    match frames.pop() {
+        Some(frame) if frames.len() == 0 => Ok(Some(finished(alloc, operand, frame.chains)?)),
         _ => Ok(None),
     }
 }
