@@ -4,12 +4,12 @@ use Rattle.cell_refs.specs.declared.references.RefText.{RefText}
 use Rattle.cell_refs.specs.RefText.{cell_at}
 use Rattle.cell_values.specs.declared.errors.ErrorKind.{ErrorKind}
 use Rattle.cell_values.specs.declared.errors.ErrorKind.TheVariants as errors
-use Rattle.cell_values.specs.declared.names.Name.{Name}
 use Rattle.cell_values.specs.declared.texts.Text.{Text}
 use Rattle.cell_values.specs.declared.values.Value.TheVariants as values
 use Rattle.cell_eval.specs.Steps.{answer_at, answers_at, arguments_at, area_at, call_at, chain_at}
 use Rattle.cell_eval.proofs.SiteLaws.{part_sites}
 use Rattle.formula_parse.proofs.PublicLaws.{fold_number, fold_text, fold_error, fold_boolean, fold_reference, fold_area, fold_call, fold_parentheses, fold_negation, fold_chain}
+use Rattle.formula_parse.specs.declared.callees.Callee.{Callee}
 use Rattle.formula_parse.specs.declared.nodes.Node.{Node}
 use Rattle.formula_parse.specs.declared.nodes.Node.TheVariants as nodes
 use Rattle.formula_parse.specs.declared.operators.Operator.{Operator}
@@ -47,9 +47,9 @@ unfolding answer_at
 answer_area world a b before = ap (λ (part : Part). part.value before) (fold_area Part (part_step world) a b)
 
 -- the answer of a call
-pub answer_call : (world : World) (name : Name) (arguments : List Node) (before : ℕ) → answer_at world (nodes.Call name arguments) before ≡ final_answer (call_at world name arguments before)
+pub answer_call : (world : World) (callee : Callee) (arguments : List Node) (before : ℕ) → answer_at world (nodes.Call callee arguments) before ≡ final_answer (call_at world callee arguments before)
 unfolding answer_at call_at arguments_at
-answer_call world name arguments before = ap (λ (part : Part). part.value before) (fold_call Part (part_step world) name arguments)
+answer_call world callee arguments before = ap (λ (part : Part). part.value before) (fold_call Part (part_step world) callee arguments)
 
 -- the answer of what stands in parentheses
 pub answer_parentheses : (world : World) (inner : Node) (before : ℕ) → answer_at world (nodes.Parentheses inner) before ≡ answer_at world inner before

@@ -1,5 +1,5 @@
--- What IF, IFERROR, IFNA and CHOOSE come to, by the arguments that they take.
-use Rattle.std.proofs.Common.{◌≡◌, ℕ, zero, suc, ◌+◌, ◌-◌, ◌<◌, ◌≤◌, nat_le, ℤ, pos, negsuc, int_lt, unsigned_abs, Bool, true, false, ◌&&◌, cond, List, [], ◌∷◌, length, take, get_or, Some, Result, Ok, Err, refl, sym, ap, ◌∙◌, arith}
+-- What IF, IFERROR, IFNA and CHOOSE come to, by what they choose.
+use Rattle.std.proofs.Common.{◌≡◌, ℕ, zero, suc, ◌+◌, ◌-◌, ◌<◌, ◌≤◌, ℤ, pos, int_lt, nat_lt, nat_le, unsigned_abs, Bool, true, false, cond, List, [], ◌∷◌, length, take, get_or, Option, Some, None, Result, Ok, Err, refl, sym, ap, ◌∙◌, arith}
 use Rattle.std.proofs.lemmas.Bool.Decides.{nat_tests}
 use Rattle.std.proofs.lemmas.Option.{slice_get_past}
 use Rattle.std.specs.List.{slice_get}
@@ -9,125 +9,115 @@ use Rattle.cell_values.specs.declared.values.Value.{Value}
 use Rattle.cell_values.specs.declared.values.Value.TheVariants as values
 use Rattle.cell_values.specs.Coercion.{truth_of}
 use Rattle.cell_values.specs.Value.{number_of}
+use Rattle.cell_eval.specs.declared.choices.Choice.{Choice}
+use Rattle.cell_eval.specs.declared.choices.Choice.TheVariants as choices
+use Rattle.cell_eval.specs.declared.choices.Chooser.{Chooser}
+use Rattle.cell_eval.specs.declared.choices.Chooser.TheVariants as choosers
 use Rattle.cell_eval.specs.declared.halts.Halt.{Halt}
-use Rattle.cell_eval.specs.Steps.{Halts, answer_at, argument_at, arguments_at, if_at, unless_at, choose_at, place_of, sites_among}
+use Rattle.cell_eval.specs.Choices.{chooser_of, choice_by_truth, choice_by_index, choice_after, chosen_answer, chooser_answer}
+use Rattle.cell_eval.specs.Steps.{Halts, answer_at, argument_at, arguments_at, chooser_at, only_at, sites_among}
 use Rattle.cell_eval.proofs.AnswerLaws.{arguments_none, arguments_first, argument_count}
-use Rattle.cell_eval.proofs.Halting.{Halts-same, Halts-then}
+use Rattle.cell_eval.proofs.Halting.{Halts-same, Halts-then, then_with-same}
 use Rattle.formula_parse.specs.declared.nodes.Node.{Node}
 use Rattle.formula_parse.specs.Tree.{site_count}
-use Rattle.workbook.specs.Evaluation.{World, Val, Argument, error_answer, then_with, branch, if_answer, unless_answer, choose_answer, choice_of, chosen_at}
+use Rattle.functions.specs.declared.functions.Function.{Function}
+use Rattle.functions.specs.declared.functions.Function.TheVariants as functions
+use Rattle.functions.specs.Functions.{arity_of, is_within}
+use Rattle.functions.specs.Kinds.{is_error, is_na}
+use Rattle.workbook.specs.Evaluation.{World, Val, Argument, error_answer, then_with, branch, choice_of, chosen_at, function_answer}
 
--- the first two arguments
-arguments_two : (world : World) (a b : Node) (rest : List Node) (before : ℕ)
-    → arguments_at world (a ∷ b ∷ rest) before ≡ argument_at world a before ∷ argument_at world b (before + site_count a) ∷ arguments_at world rest (before + site_count a + site_count b)
-arguments_two world a b rest before =
-    arguments_first world a (b ∷ rest) before ∙ ap (λ list. argument_at world a before ∷ list) (arguments_first world b rest (before + site_count a))
+-- ---- each function answers what it chooses
+two_or_more : (n : ℕ) → nat_lt 1 (suc (suc n)) ≡ true
+two_or_more n = grind (arith, nat_tests)
 
--- ---- IF
-if_start : (world : World) (ns : List Node) (test met : Node) (unmet : List Node) (before : ℕ) → ns ≡ test ∷ met ∷ unmet
-    → if_at world ns before ≡ then_with (answer_at world test before) (λ v. branch (truth_of v) (argument_at world met (before + site_count test)) (arguments_at world unmet (before + site_count test + site_count met)))
-unfolding if_at
-if_start world ns test met unmet before is = ap (λ n. if_answer (arguments_at world n before)) is ∙ ap if_answer (arguments_two world test met unmet before)
+by_truth : (r : Result Bool ErrorKind) (met : Argument) (unmet : List Argument) → branch r met unmet ≡ chosen_answer (choice_by_truth r (suc (length unmet))) (met ∷ unmet)
+by_truth (Err kind) met unmet = refl
+by_truth (Ok true) met unmet = refl
+by_truth (Ok false) met [] = refl
+by_truth (Ok false) met (other ∷ others) = ap (λ b. chosen_answer (cond b (choices.Argument 1) (choices.Value (values.Bool false))) (met ∷ other ∷ others)) (sym (two_or_more (length others)))
 
-if_tested : (world : World) (ns : List Node) (test met : Node) (unmet : List Node) (before : ℕ) (v : Value) (r : Result Bool ErrorKind) → ns ≡ test ∷ met ∷ unmet → answer_at world test before ≡ Val v → truth_of v ≡ r
-    → if_at world ns before ≡ branch r (argument_at world met (before + site_count test)) (arguments_at world unmet (before + site_count test + site_count met))
-if_tested world ns test met unmet before v r is value truth =
-    if_start world ns test met unmet before is
-    ∙ ap (λ a. then_with a (λ w. branch (truth_of w) (argument_at world met (before + site_count test)) (arguments_at world unmet (before + site_count test + site_count met)))) value
-    ∙ ap (λ t. branch t (argument_at world met (before + site_count test)) (arguments_at world unmet (before + site_count test + site_count met))) truth
+by_test : (b : Bool) (v : Value) (second : Argument) (others : List Argument) → cond b second.value (Val v) ≡ chosen_answer (cond b (choices.Argument 0) (choices.Value v)) (second ∷ others)
+by_test true v second others = refl
+by_test false v second others = refl
 
--- with no argument, and with one
-pub if_none : (world : World) (ns : List Node) (before : ℕ) → ns ≡ [] → if_at world ns before ≡ error_answer errors.Value
-unfolding if_at
-if_none world ns before is = ap (λ n. if_answer (arguments_at world n before)) is ∙ ap if_answer (arguments_none world before)
+by_sign : (above : Bool) (n : ℤ) (options : List Argument)
+    → cond above (chosen_at (slice_get options (unsigned_abs n - 1))) (error_answer errors.Value) ≡ chosen_answer (cond above (choices.Argument (unsigned_abs n - 1)) (choices.Value (values.Error errors.Value))) options
+by_sign true n options = refl
+by_sign false n options = refl
 
-pub if_one : (world : World) (ns : List Node) (test : Node) (before : ℕ) → ns ≡ test ∷ [] → if_at world ns before ≡ error_answer errors.Value
-unfolding if_at
-if_one world ns test before is =
-    ap (λ n. if_answer (arguments_at world n before)) is
-    ∙ ap if_answer (arguments_first world test [] before ∙ ap (λ list. argument_at world test before ∷ list) (arguments_none world (before + site_count test)))
+by_index : (r : Result ℤ ErrorKind) (options : List Argument) → choice_of r options ≡ chosen_answer (choice_by_index r) options
+by_index (Err kind) options = refl
+by_index (Ok n) options = by_sign (int_lt (pos 0) n) n options
 
--- the test halts
-pub if_halts : (world : World) (ns : List Node) (test met : Node) (unmet : List Node) (before : ℕ) (halt : Halt) → ns ≡ test ∷ met ∷ unmet → Halts (answer_at world test before) halt → Halts (if_at world ns before) halt
-if_halts world ns test met unmet before halt is h = Halts-same _ _ halt (if_start world ns test met unmet before is) (Halts-then (answer_at world test before) halt _ h)
+-- a function that chooses, by the chooser, where it has as many arguments as it takes
+pub chooses : (world : World) (f : Function) (chooser : Chooser) (arguments : List Argument) → chooser_of f ≡ Some chooser → is_within (arity_of f) (length arguments) ≡ true → function_answer world f arguments ≡ chooser_answer chooser arguments
+chooses world functions.If chooser [] e within = absurd (cc)
+chooses world functions.If chooser (test ∷ []) e within = absurd (cc)
+chooses world functions.If chooser (test ∷ met ∷ unmet) e within =
+    let same : choosers.If ≡ chooser = cc in
+    then_with-same test.value (λ v. branch (truth_of v) met unmet) (λ v. chosen_answer (choice_by_truth (truth_of v) (suc (length unmet))) (met ∷ unmet)) (λ v. by_truth (truth_of v) met unmet)
+    ∙ ap (λ c. chooser_answer c (test ∷ met ∷ unmet)) same
+chooses world functions.IfError chooser [] e within = absurd (cc)
+chooses world functions.IfError chooser (first ∷ []) e within = absurd (cc)
+chooses world functions.IfError chooser (first ∷ second ∷ others) e within =
+    let same : choosers.IfError ≡ chooser = cc in
+    then_with-same first.value (λ v. cond (is_error v) second.value (Val v)) (λ v. chosen_answer (cond (is_error v) (choices.Argument 0) (choices.Value v)) (second ∷ others)) (λ v. by_test (is_error v) v second others)
+    ∙ ap (λ c. chooser_answer c (first ∷ second ∷ others)) same
+chooses world functions.IfNa chooser [] e within = absurd (cc)
+chooses world functions.IfNa chooser (first ∷ []) e within = absurd (cc)
+chooses world functions.IfNa chooser (first ∷ second ∷ others) e within =
+    let same : choosers.IfNa ≡ chooser = cc in
+    then_with-same first.value (λ v. cond (is_na v) second.value (Val v)) (λ v. chosen_answer (cond (is_na v) (choices.Argument 0) (choices.Value v)) (second ∷ others)) (λ v. by_test (is_na v) v second others)
+    ∙ ap (λ c. chooser_answer c (first ∷ second ∷ others)) same
+chooses world functions.Choose chooser [] e within = absurd (cc)
+chooses world functions.Choose chooser (index ∷ options) e within =
+    let same : choosers.Choose ≡ chooser = cc in
+    then_with-same index.value (λ v. choice_of (number_of v) options) (λ v. chosen_answer (choice_by_index (number_of v)) options) (λ v. by_index (number_of v) options)
+    ∙ ap (λ c. chooser_answer c (index ∷ options)) same
+chooses world f chooser arguments e within = absurd (cc)
 
--- the test is no boolean
-pub if_fault : (world : World) (ns : List Node) (test met : Node) (unmet : List Node) (before : ℕ) (v : Value) (kind : ErrorKind) → ns ≡ test ∷ met ∷ unmet → answer_at world test before ≡ Val v → truth_of v ≡ Err kind → if_at world ns before ≡ error_answer kind
-if_fault world ns test met unmet before v kind is value truth = if_tested world ns test met unmet before v (Err kind) is value truth
+-- ---- a function that chooses, behind so many sites
+-- with no argument
+pub chooser_none : (world : World) (chooser : Chooser) (ns : List Node) (before : ℕ) → ns ≡ [] → chooser_at world chooser ns before ≡ error_answer errors.Value
+unfolding chooser_at
+chooser_none world chooser ns before is = ap (λ n. chooser_answer chooser (arguments_at world n before)) is ∙ ap (chooser_answer chooser) (arguments_none world before)
 
--- the test is true
-pub if_met : (world : World) (ns : List Node) (test met : Node) (unmet : List Node) (before there : ℕ) (v : Value) → ns ≡ test ∷ met ∷ unmet → answer_at world test before ≡ Val v → truth_of v ≡ Ok true
-    → there ≡ before + site_count test → if_at world ns before ≡ answer_at world met there
-if_met world ns test met unmet before there v is value truth at = if_tested world ns test met unmet before v (Ok true) is value truth ∙ ap (answer_at world met) (sym at)
+start : (world : World) (chooser : Chooser) (ns : List Node) (first : Node) (others : List Node) (before : ℕ) → ns ≡ first ∷ others
+    → chooser_at world chooser ns before ≡ then_with (answer_at world first before) (λ v. chosen_answer (choice_after chooser v (length others)) (arguments_at world others (before + site_count first)))
+unfolding chooser_at
+start world chooser ns first others before is =
+    ap (λ n. chooser_answer chooser (arguments_at world n before)) is
+    ∙ ap (chooser_answer chooser) (arguments_first world first others before)
+    ∙ ap (λ count. then_with (answer_at world first before) (λ v. chosen_answer (choice_after chooser v count) (arguments_at world others (before + site_count first)))) (argument_count world others (before + site_count first))
 
--- the test is false
-pub if_unmet : (world : World) (ns : List Node) (test met : Node) (others : List Node) (unmet : Node) (rest : List Node) (before there : ℕ) (v : Value) → ns ≡ test ∷ met ∷ others → others ≡ unmet ∷ rest
-    → answer_at world test before ≡ Val v → truth_of v ≡ Ok false → there ≡ before + site_count test + site_count met → if_at world ns before ≡ answer_at world unmet there
-if_unmet world ns test met others unmet rest before there v is split value truth at =
-    if_tested world ns test met others before v (Ok false) is value truth
-    ∙ ap (branch (Ok false) (argument_at world met (before + site_count test)))
-    (ap (λ n. arguments_at world n (before + site_count test + site_count met)) split ∙ arguments_first world unmet rest (before + site_count test + site_count met))
-    ∙ ap (answer_at world unmet) (sym at)
+-- the first argument halts
+pub chooser_halts : (world : World) (chooser : Chooser) (ns : List Node) (first : Node) (others : List Node) (before : ℕ) (halt : Halt) → ns ≡ first ∷ others → Halts (answer_at world first before) halt → Halts (chooser_at world chooser ns before) halt
+chooser_halts world chooser ns first others before halt is h = Halts-same _ _ halt (start world chooser ns first others before is) (Halts-then (answer_at world first before) halt _ h)
 
-pub if_absent : (world : World) (ns : List Node) (test met : Node) (others : List Node) (before : ℕ) (v : Value) → ns ≡ test ∷ met ∷ others → others ≡ []
-    → answer_at world test before ≡ Val v → truth_of v ≡ Ok false → if_at world ns before ≡ Val (values.Bool false)
-if_absent world ns test met others before v is none value truth =
-    if_tested world ns test met others before v (Ok false) is value truth
-    ∙ ap (branch (Ok false) (argument_at world met (before + site_count test)))
-    (ap (λ n. arguments_at world n (before + site_count test + site_count met)) none ∙ arguments_none world (before + site_count test + site_count met))
+-- by what is chosen
+by_choice : (world : World) (chooser : Chooser) (ns : List Node) (first : Node) (others : List Node) (before there : ℕ) (v : Value) (choice : Choice) → ns ≡ first ∷ others → answer_at world first before ≡ Val v → there ≡ before + site_count first
+    → choice ≡ choice_after chooser v (length others) → chooser_at world chooser ns before ≡ chosen_answer choice (arguments_at world others there)
+by_choice world chooser ns first others before there v choice is value at chosen =
+    start world chooser ns first others before is
+    ∙ ap (λ a. then_with a (λ w. chosen_answer (choice_after chooser w (length others)) (arguments_at world others (before + site_count first)))) value
+    ∙ ap (λ b. chosen_answer (choice_after chooser v (length others)) (arguments_at world others b)) (sym at)
+    ∙ ap (λ c. chosen_answer c (arguments_at world others there)) (sym chosen)
 
--- ---- IFERROR and IFNA
-unless_start : (world : World) (such : Value → Bool) (ns : List Node) (first second : Node) (rest : List Node) (before : ℕ) → ns ≡ first ∷ second ∷ rest
-    → unless_at world such ns before ≡ then_with (answer_at world first before) (λ v. cond (such v) (answer_at world second (before + site_count first)) (Val v))
-unfolding unless_at
-unless_start world such ns first second rest before is = ap (λ n. unless_answer such (arguments_at world n before)) is ∙ ap (unless_answer such) (arguments_two world first second rest before)
+-- a value is chosen
+pub chooser_value : (world : World) (chooser : Chooser) (ns : List Node) (first : Node) (others : List Node) (before there : ℕ) (v : Value) (choice : Choice) (w : Value) → ns ≡ first ∷ others → answer_at world first before ≡ Val v → there ≡ before + site_count first
+    → choice ≡ choice_after chooser v (length others) → choice ≡ choices.Value w → chooser_at world chooser ns before ≡ Val w
+chooser_value world chooser ns first others before there v choice w is value at chosen which =
+    by_choice world chooser ns first others before there v choice is value at chosen ∙ ap (λ c. chosen_answer c (arguments_at world others there)) which
 
-unless_tested : (world : World) (such : Value → Bool) (ns : List Node) (first second : Node) (rest : List Node) (before : ℕ) (v : Value) (b : Bool) → ns ≡ first ∷ second ∷ rest → answer_at world first before ≡ Val v → such v ≡ b
-    → unless_at world such ns before ≡ cond b (answer_at world second (before + site_count first)) (Val v)
-unless_tested world such ns first second rest before v b is value test =
-    unless_start world such ns first second rest before is
-    ∙ ap (λ a. then_with a (λ w. cond (such w) (answer_at world second (before + site_count first)) (Val w))) value
-    ∙ ap (λ t. cond t (answer_at world second (before + site_count first)) (Val v)) test
+-- an argument is chosen
+pub chooser_only : (world : World) (chooser : Chooser) (ns : List Node) (first : Node) (others : List Node) (before there : ℕ) (v : Value) (choice : Choice) (place : ℕ) → ns ≡ first ∷ others → answer_at world first before ≡ Val v → there ≡ before + site_count first
+    → choice ≡ choice_after chooser v (length others) → choice ≡ choices.Argument place → chooser_at world chooser ns before ≡ only_at world others place there
+unfolding only_at
+chooser_only world chooser ns first others before there v choice place is value at chosen which =
+    by_choice world chooser ns first others before there v choice is value at chosen ∙ ap (λ c. chosen_answer c (arguments_at world others there)) which
 
-pub unless_none : (world : World) (such : Value → Bool) (ns : List Node) (before : ℕ) → ns ≡ [] → unless_at world such ns before ≡ error_answer errors.Value
-unfolding unless_at
-unless_none world such ns before is = ap (λ n. unless_answer such (arguments_at world n before)) is ∙ ap (unless_answer such) (arguments_none world before)
-
-pub unless_one : (world : World) (such : Value → Bool) (ns : List Node) (first : Node) (before : ℕ) → ns ≡ first ∷ [] → unless_at world such ns before ≡ error_answer errors.Value
-unfolding unless_at
-unless_one world such ns first before is =
-    ap (λ n. unless_answer such (arguments_at world n before)) is
-    ∙ ap (unless_answer such) (arguments_first world first [] before ∙ ap (λ list. argument_at world first before ∷ list) (arguments_none world (before + site_count first)))
-
-pub unless_halts : (world : World) (such : Value → Bool) (ns : List Node) (first second : Node) (rest : List Node) (before : ℕ) (halt : Halt) → ns ≡ first ∷ second ∷ rest → Halts (answer_at world first before) halt → Halts (unless_at world such ns before) halt
-unless_halts world such ns first second rest before halt is h = Halts-same _ _ halt (unless_start world such ns first second rest before is) (Halts-then (answer_at world first before) halt _ h)
-
-pub unless_other : (world : World) (such : Value → Bool) (ns : List Node) (first second : Node) (rest : List Node) (before there : ℕ) (v : Value) → ns ≡ first ∷ second ∷ rest → answer_at world first before ≡ Val v → such v ≡ true
-    → there ≡ before + site_count first → unless_at world such ns before ≡ answer_at world second there
-unless_other world such ns first second rest before there v is value test at = unless_tested world such ns first second rest before v true is value test ∙ ap (answer_at world second) (sym at)
-
-pub unless_same : (world : World) (such : Value → Bool) (ns : List Node) (first second : Node) (rest : List Node) (before : ℕ) (v : Value) → ns ≡ first ∷ second ∷ rest → answer_at world first before ≡ Val v → such v ≡ false → unless_at world such ns before ≡ Val v
-unless_same world such ns first second rest before v is value test = unless_tested world such ns first second rest before v false is value test
-
--- ---- CHOOSE
-choose_start : (world : World) (ns : List Node) (index : Node) (options : List Node) (before : ℕ) → ns ≡ index ∷ options
-    → choose_at world ns before ≡ then_with (answer_at world index before) (λ v. choice_of (number_of v) (arguments_at world options (before + site_count index)))
-unfolding choose_at
-choose_start world ns index options before is = ap (λ n. choose_answer (arguments_at world n before)) is ∙ ap choose_answer (arguments_first world index options before)
-
-choose_tested : (world : World) (ns : List Node) (index : Node) (options : List Node) (before : ℕ) (v : Value) → ns ≡ index ∷ options → answer_at world index before ≡ Val v
-    → choose_at world ns before ≡ choice_of (number_of v) (arguments_at world options (before + site_count index))
-choose_tested world ns index options before v is value =
-    choose_start world ns index options before is ∙ ap (λ a. then_with a (λ w. choice_of (number_of w) (arguments_at world options (before + site_count index)))) value
-
-pub choose_none : (world : World) (ns : List Node) (before : ℕ) → ns ≡ [] → choose_at world ns before ≡ error_answer errors.Value
-unfolding choose_at
-choose_none world ns before is = ap (λ n. choose_answer (arguments_at world n before)) is ∙ ap choose_answer (arguments_none world before)
-
-pub choose_halts : (world : World) (ns : List Node) (index : Node) (options : List Node) (before : ℕ) (halt : Halt) → ns ≡ index ∷ options → Halts (answer_at world index before) halt → Halts (choose_at world ns before) halt
-choose_halts world ns index options before halt is h = Halts-same _ _ halt (choose_start world ns index options before is) (Halts-then (answer_at world index before) halt _ h)
-
--- the argument at a place among several
+-- ---- the argument at a place
+-- among several
 arguments_get : (world : World) (ns : List Node) (i : ℕ) (d : Node) (before : ℕ) → i < length ns → slice_get (arguments_at world ns before) i ≡ Some (argument_at world (get_or ns i d) (before + sites_among (take i ns)))
 arguments_get world [] i d before lt = absurd (omega arith)
 arguments_get world (n ∷ ns) zero d before lt =
@@ -139,73 +129,17 @@ arguments_get world (n ∷ ns) (suc i) d before lt =
     ∙ arguments_get world ns i d (before + site_count n) (omega arith)
     ∙ ap (λ b. Some (argument_at world (get_or ns i d) b)) at
 
--- by the number, a place within the options, or a fault
-pub record Chosen (n : ℤ) (options : List Argument) (place : ℕ) : Type 0 where
-  pub at : choice_of (Ok n) options ≡ chosen_at (slice_get options place)
-  pub within : place < length options
+-- past the last
+pub only_past : (world : World) (ns : List Node) (place before : ℕ) → length ns ≤ place → only_at world ns place before ≡ error_answer errors.Value
+unfolding only_at
+only_past world ns place before past =
+    let count = argument_count world ns before in
+    ap chosen_at (slice_get_past (arguments_at world ns before) place (omega arith))
 
-positive : (n : ℤ) → int_lt (pos 0) n ≡ true → 0 < unsigned_abs n
-positive (pos k) e = grind (arith, nat_tests)
-positive (negsuc m) e = absurd (cc)
-
-le_from_test : (m n : ℕ) → nat_le m n ≡ true → m ≤ n
-le_from_test m n e = grind (arith, nat_tests)
-
-past_from_test : (m n : ℕ) → nat_le m n ≡ false → n < m
-past_from_test m n e = grind (arith, nat_tests)
-
-chosen_by : (n : ℤ) (above inside : Bool) (options : List Argument) (count : ℕ) → count ≡ length options → int_lt (pos 0) n ≡ above → nat_le (unsigned_abs n) count ≡ inside → (place : ℕ)
-    → cond (above && inside) (Ok (unsigned_abs n - 1)) (Err errors.Value) ≡ Ok place → Chosen n options place
-chosen_by n false inside options count same p e place is = absurd (cc)
-chosen_by n true false options count same p e place is = absurd (cc)
-chosen_by n true true options count same p e place is =
-    let here : unsigned_abs n - 1 ≡ place = cc in
-    let some = positive n p in
-    let within = le_from_test (unsigned_abs n) count e in
-    record {
-      at = ap (λ b. cond b (chosen_at (slice_get options (unsigned_abs n - 1))) (error_answer errors.Value)) p ∙ ap (λ i. chosen_at (slice_get options i)) here;
-      within = omega arith;
-    }
-
-fault_by : (n : ℤ) (above inside : Bool) (options : List Argument) (count : ℕ) → count ≡ length options → int_lt (pos 0) n ≡ above → nat_le (unsigned_abs n) count ≡ inside → (kind : ErrorKind)
-    → cond (above && inside) (Ok (unsigned_abs n - 1)) (Err errors.Value) ≡ Err kind → choice_of (Ok n) options ≡ error_answer kind
-fault_by n false inside options count same p e kind is =
-    let k : errors.Value ≡ kind = cc in
-    ap (λ b. cond b (chosen_at (slice_get options (unsigned_abs n - 1))) (error_answer errors.Value)) p ∙ ap error_answer k
-fault_by n true true options count same p e kind is = absurd (cc)
-fault_by n true false options count same p e kind is =
-    let k : errors.Value ≡ kind = cc in
-    let past = past_from_test (unsigned_abs n) count e in
-    ap (λ b. cond b (chosen_at (slice_get options (unsigned_abs n - 1))) (error_answer errors.Value)) p
-    ∙ ap chosen_at (slice_get_past options (unsigned_abs n - 1) (omega arith))
-    ∙ ap error_answer k
-
-fault_of : (r : Result ℤ ErrorKind) (options : List Argument) (count : ℕ) → count ≡ length options → (kind : ErrorKind) → place_of r count ≡ Err kind → choice_of r options ≡ error_answer kind
-fault_of (Ok n) options count same kind is = fault_by n (int_lt (pos 0) n) (nat_le (unsigned_abs n) count) options count same refl refl kind is
-fault_of (Err k) options count same kind is = let e : k ≡ kind = cc in ap error_answer e
-
-place_at : (r : Result ℤ ErrorKind) (options : List Argument) (count : ℕ) → count ≡ length options → (place : ℕ) → place_of r count ≡ Ok place → (choice_of r options ≡ chosen_at (slice_get options place)) × (place < length options)
-place_at (Ok n) options count same place is = let h = chosen_by n (int_lt (pos 0) n) (nat_le (unsigned_abs n) count) options count same refl refl place is in (h.at, h.within)
-place_at (Err k) options count same place is = absurd (cc)
-
--- the index is no place among the options
-pub choose_fault : (world : World) (ns : List Node) (index : Node) (options : List Node) (before : ℕ) (v : Value) (kind : ErrorKind) → ns ≡ index ∷ options → answer_at world index before ≡ Val v
-    → place_of (number_of v) (length options) ≡ Err kind → choose_at world ns before ≡ error_answer kind
-choose_fault world ns index options before v kind is value fault =
-    choose_tested world ns index options before v is value
-    ∙ fault_of (number_of v) (arguments_at world options (before + site_count index)) (length options) (sym (argument_count world options (before + site_count index))) kind fault
-
--- the index is one
-pub choose_within : (v : Value) (options : List Node) (place : ℕ) → place_of (number_of v) (length options) ≡ Ok place → (world : World) → place < length options
-choose_within v options place at world =
-    let h = place_at (number_of v) (arguments_at world options 0) (length options) (sym (argument_count world options 0)) place at in
-    omega (arith, argument_count world options 0, h.1)
-
-pub choose_taken : (world : World) (ns : List Node) (index : Node) (options : List Node) (before there : ℕ) (v : Value) (place : ℕ) (d : Node) → ns ≡ index ∷ options → answer_at world index before ≡ Val v
-    → place_of (number_of v) (length options) ≡ Ok place → there ≡ before + site_count index + sites_among (take place options) → choose_at world ns before ≡ answer_at world (get_or options place d) there
-choose_taken world ns index options before there v place d is value at behind =
-    let h = place_at (number_of v) (arguments_at world options (before + site_count index)) (length options) (sym (argument_count world options (before + site_count index))) place at in
-    choose_tested world ns index options before v is value
-    ∙ h.0
-    ∙ ap chosen_at (arguments_get world options place d (before + site_count index) (choose_within v options place at world))
-    ∙ ap (answer_at world (get_or options place d)) (sym behind)
+-- within
+pub only_taken : (world : World) (ns : List Node) (place before there : ℕ) (x : Node) → place < length ns → x ≡ get_or ns place x → there ≡ before + sites_among (take place ns) → only_at world ns place before ≡ answer_at world x there
+unfolding only_at
+only_taken world ns place before there x lt is at =
+    ap chosen_at (arguments_get world ns place x before lt)
+    ∙ ap (λ b. answer_at world (get_or ns place x) b) (sym at)
+    ∙ ap (λ (n : Node). answer_at world n there) (sym is)

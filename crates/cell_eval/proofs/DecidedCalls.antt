@@ -1,7 +1,7 @@
 -- What calls come to over arguments that are given by decisions.
-use Rattle.std.proofs.Common.{◌≡◌, ℕ, ℤ, zero, suc, ◌-◌, pos, int_lt, nat_lt, nat_eq, unsigned_abs, Bool, true, false, ◌||◌, cond, List, [], ◌∷◌, map, length, slice_get, Option, Some, None, Result, Ok, Err, codes, refl, ap}
+use Rattle.std.proofs.Common.{◌≡◌, ℕ, ℤ, zero, suc, ◌-◌, pos, int_lt, nat_lt, nat_eq, unsigned_abs, Bool, true, false, ◌||◌, cond, List, [], ◌∷◌, map, length, slice_get, Option, Some, None, Result, Ok, Err, refl, ap}
 use Rattle.std.specs.List.{list_any}
-use Rattle.std.specs.Str.{bytes_eq, chars}
+use Rattle.std.specs.Str.{chars}
 use Rattle.std.proofs.lemmas.List.{length-map}
 use Rattle.addin_types.specs.declared.registrations.Kind.{Kind}
 use Rattle.addin_types.specs.declared.registrations.Kind.TheVariants as kinds
@@ -16,6 +16,8 @@ use Rattle.cell_values.specs.Coercion.{text_of, truth_of}
 use Rattle.cell_values.specs.Name.{is_name}
 use Rattle.cell_values.specs.Value.{number_of, final_of}
 use Rattle.cell_eval.proofs.Decisions.{Known, Decision, Looks, Gives, looked, run, Decides, decides_value, decides_call, decides_run, decides_same, decides_cond, decides_then, decides_all}
+use Rattle.formula_parse.specs.declared.callees.Callee.{Callee}
+use Rattle.formula_parse.specs.declared.callees.Callee.TheVariants as callees
 use Rattle.functions.specs.declared.arguments.Arg.{Arg}
 use Rattle.functions.specs.declared.arguments.Arg.TheVariants as inputs
 use Rattle.functions.specs.declared.functions.Function.{Function}
@@ -24,7 +26,7 @@ use Rattle.functions.specs.Applied.{result_of}
 use Rattle.functions.specs.Functions.{arity_of, takes_area, is_within}
 use Rattle.functions.specs.Inputs.{all_ok}
 use Rattle.functions.specs.Kinds.{is_error, is_na}
-use Rattle.workbook.specs.Evaluation.{World, Answer, Val, Argument, error_answer, then_with, with_all, with_input, with_inputs, area_input, branch, if_answer, unless_answer, choice_of, chosen_at, choose_answer, function_answer, topic_answer, known_answer, rtd_answer, accepted_answer, kind_answer, added_answer, call_answer, LONGEST_STRING}
+use Rattle.workbook.specs.Evaluation.{World, Answer, Val, Argument, error_answer, then_with, with_all, with_input, with_inputs, area_input, branch, if_answer, unless_answer, choice_of, chosen_at, choose_answer, function_answer, topic_answer, known_answer, rtd_answer, accepted_answer, kind_answer, added_answer, call_answer, LONGEST_STRING, RTD_ARITY}
 
 -- an argument before the topics are known
 pub record Open : Type 0 where
@@ -164,7 +166,7 @@ decides_topic world (Ok (name ∷ machine ∷ strings)) =
 -- RTD
 decides_rtd : (world : World) (os : List Open) → Decides (λ known. rtd_answer (knowing world known) (map (closed known) os))
 decides_rtd world os =
-    decides_counted (is_within (3, 18)) os (λ known. with_all (map (λ (a : Argument). a.value) (map (closed known) os)) (λ vs. topic_answer (knowing world known) (all_ok (map text_of vs)))) (error_answer errors.Value)
+    decides_counted (is_within RTD_ARITY) os (λ known. with_all (map (λ (a : Argument). a.value) (map (closed known) os)) (λ vs. topic_answer (knowing world known) (all_ok (map text_of vs)))) (error_answer errors.Value)
     (decides_values os (λ known vs. topic_answer (knowing world known) (all_ok (map text_of vs))) (λ vs. decides_topic world (all_ok (map text_of vs))))
     (decides_failed errors.Value)
 
@@ -178,7 +180,7 @@ decides_kind : (world : World) (kind : Kind) (site : ℕ) (name : List ℕ) (arg
 decides_kind world kinds.Plain site name args = decides_value (world.answer name args)
 decides_kind world (kinds.Asynchronous place) site name args = decides_accepted site name args (world.accepted site)
 
--- a name that is neither built in nor RTD
+-- an added name
 decides_added : (world : World) (registered : Option Registration) (site : ℕ) (name : List ℕ) (os : List Open) → Decides (λ known. added_answer (knowing world known) registered site name (map (closed known) os))
 decides_added world None site name os = decides_failed errors.Name
 decides_added world (Some registration) site name os =
@@ -188,9 +190,8 @@ decides_added world (Some registration) site name os =
     (decides_failed errors.Value)
 
 -- a call
-pub decides_call_of : (world : World) (f : Option Function) (site : ℕ) (name : List ℕ) (os : List Open) → Decides (λ known. call_answer (knowing world known) f site name (map (closed known) os))
-decides_call_of world (Some f) site name os =
+pub decides_call_of : (world : World) (callee : Callee) (site : ℕ) (os : List Open) → Decides (λ known. call_answer (knowing world known) callee site (map (closed known) os))
+decides_call_of world (callees.BuiltIn f) site os =
     decides_counted (is_within (arity_of f)) os (λ known. function_answer (knowing world known) f (map (closed known) os)) (error_answer errors.Value) (decides_function world f os) (decides_failed errors.Value)
-decides_call_of world None site name os =
-    decides_cond (bytes_eq name (codes "RTD")) (λ known. rtd_answer (knowing world known) (map (closed known) os)) (λ known. added_answer (knowing world known) (world.registered name) site name (map (closed known) os))
-    (decides_rtd world os) (decides_added world (world.registered name) site name os)
+decides_call_of world callees.Rtd site os = decides_rtd world os
+decides_call_of world (callees.Added name) site os = decides_added world (world.registered name) site name os

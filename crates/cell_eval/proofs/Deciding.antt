@@ -3,7 +3,6 @@ use Rattle.std.proofs.Common.{◌≡◌, ℕ, suc, ◌+◌, List, [], ◌∷◌,
 use Rattle.std.proofs.lemmas.List.Elements.{All-head, All-tail}
 use Rattle.cell_refs.specs.RefText.{cell_at}
 use Rattle.cell_values.specs.declared.errors.ErrorKind.TheVariants as errors
-use Rattle.cell_values.specs.declared.names.Name.{Name}
 use Rattle.cell_values.specs.declared.values.Value.{Value}
 use Rattle.cell_values.specs.declared.values.Value.TheVariants as values
 use Rattle.cell_eval.specs.Resuming.{answer_knowing}
@@ -12,11 +11,11 @@ use Rattle.cell_eval.proofs.AnswerLaws.{answer_number, answer_text, answer_error
 use Rattle.cell_eval.proofs.DecidedCalls.{Open, closed, knowing, decides_call_of}
 use Rattle.cell_eval.proofs.Decisions.{Known, Decision, run, Decides, decides_value, decides_same, decides_then, decides_all, decides_final}
 use Rattle.formula_parse.proofs.PublicLaws.{fold_number, fold_text, fold_error, fold_boolean, fold_reference, fold_area, fold_call, fold_parentheses, fold_negation, fold_chain, node_induction}
+use Rattle.formula_parse.specs.declared.callees.Callee.{Callee}
 use Rattle.formula_parse.specs.declared.nodes.Node.{Node}
 use Rattle.formula_parse.specs.declared.nodes.Node.TheVariants as nodes
 use Rattle.formula_parse.specs.declared.operators.Operator.{Operator}
 use Rattle.formula_parse.specs.Tree.{site_count}
-use Rattle.functions.specs.Functions.{function_named}
 use Rattle.workbook.specs.Evaluation.{World, Part, Val, then_with, with_all, final_answer, repeated_negation, chain_value, call_answer, own_site, part_of, part_step}
 
 module _ (world : World) where
@@ -35,7 +34,7 @@ module _ (world : World) where
       (λ b known. ap (λ (part : Part). part.area) (fold_boolean Part (part_step (knowing world known)) b) ∙ sym (ap (λ (part : Part). part.area) (fold_boolean Part (part_step world) b)))
       (λ r known. ap (λ (part : Part). part.area) (fold_reference Part (part_step (knowing world known)) r) ∙ sym (ap (λ (part : Part). part.area) (fold_reference Part (part_step world) r)))
       (λ a b known. ap (λ (part : Part). part.area) (fold_area Part (part_step (knowing world known)) a b) ∙ sym (ap (λ (part : Part). part.area) (fold_area Part (part_step world) a b)))
-      (λ name arguments h known. ap (λ (part : Part). part.area) (fold_call Part (part_step (knowing world known)) name arguments) ∙ sym (ap (λ (part : Part). part.area) (fold_call Part (part_step world) name arguments)))
+      (λ callee arguments h known. ap (λ (part : Part). part.area) (fold_call Part (part_step (knowing world known)) callee arguments) ∙ sym (ap (λ (part : Part). part.area) (fold_call Part (part_step world) callee arguments)))
       (λ inner h known. ap (λ (part : Part). part.area) (fold_parentheses Part (part_step (knowing world known)) inner) ∙ sym (ap (λ (part : Part). part.area) (fold_parentheses Part (part_step world) inner)))
       (λ count operand h known. ap (λ (part : Part). part.area) (fold_negation Part (part_step (knowing world known)) count operand) ∙ sym (ap (λ (part : Part). part.area) (fold_negation Part (part_step world) count operand)))
       (λ operands ops h known. ap (λ (part : Part). part.area) (fold_chain Part (part_step (knowing world known)) operands ops) ∙ sym (ap (λ (part : Part). part.area) (fold_chain Part (part_step world) operands ops)))
@@ -91,14 +90,14 @@ module _ (world : World) where
   decides_one node before v h = decides_same (λ known. answer_at (knowing world known) node before) (λ known. Val v) h (decides_value v)
 
   -- a call
-  call_decided : (name : Name) (arguments : List Node) → All IsDecided arguments → IsDecided (nodes.Call name arguments)
+  call_decided : (callee : Callee) (arguments : List Node) → All IsDecided arguments → IsDecided (nodes.Call callee arguments)
   unfolding call_at
-  call_decided name arguments h before =
-      let os = opened arguments (before + own_site name) h in
-      decides_same (λ known. answer_at (knowing world known) (nodes.Call name arguments) before)
-      (λ known. final_answer (call_answer (knowing world known) (function_named name) (suc before) name (map (closed known) os.opens)))
-      (λ known. answer_call (knowing world known) name arguments before ∙ ap (λ args. final_answer (call_answer (knowing world known) (function_named name) (suc before) name args)) (os.closes known))
-      (decides_final (λ known. call_answer (knowing world known) (function_named name) (suc before) name (map (closed known) os.opens)) (decides_call_of world (function_named name) (suc before) name os.opens))
+  call_decided callee arguments h before =
+      let os = opened arguments (before + own_site callee) h in
+      decides_same (λ known. answer_at (knowing world known) (nodes.Call callee arguments) before)
+      (λ known. final_answer (call_answer (knowing world known) callee (suc before) (map (closed known) os.opens)))
+      (λ known. answer_call (knowing world known) callee arguments before ∙ ap (λ args. final_answer (call_answer (knowing world known) callee (suc before) args)) (os.closes known))
+      (decides_final (λ known. call_answer (knowing world known) callee (suc before) (map (closed known) os.opens)) (decides_call_of world callee (suc before) os.opens))
 
   -- parentheses
   parentheses_decided : (inner : Node) → IsDecided inner → IsDecided (nodes.Parentheses inner)

@@ -4,10 +4,10 @@ use Rattle.std.proofs.lemmas.List.{drop_more}
 use Rattle.std.proofs.lemmas.List.Elements.{All-head, All-tail, All-cons, All-nil}
 use Rattle.cell_refs.specs.declared.areas.Area.{Area}
 use Rattle.cell_refs.specs.Area.{size_of}
-use Rattle.cell_values.specs.declared.names.Name.{Name}
 use Rattle.cell_eval.specs.Steps.{NamesSmallAreas, sites_among}
 use Rattle.cell_eval.proofs.Weights.{weight, weights, weights_first}
 use Rattle.formula_parse.proofs.PublicLaws.{fold_call, fold_parentheses, fold_negation, fold_chain}
+use Rattle.formula_parse.specs.declared.callees.Callee.{Callee}
 use Rattle.formula_parse.specs.declared.nodes.Node.{Node}
 use Rattle.formula_parse.specs.declared.nodes.Node.TheVariants as nodes
 use Rattle.formula_parse.specs.declared.operators.Operator.{Operator}
@@ -34,9 +34,9 @@ small_all home (n ∷ ns) h =
     All-cons (NamesSmallAreas home) n ns (all_front IsSmall (areas_named n home) (concat (map (λ m. areas_named m home) ns)) h)
     (small_all home ns (all_back IsSmall (areas_named n home) (concat (map (λ m. areas_named m home) ns)) h))
 
-pub small_call : (home : ℕ) (node : Node) (name : Name) (arguments : List Node) → node ≡ nodes.Call name arguments → NamesSmallAreas home node → All (NamesSmallAreas home) arguments
+pub small_call : (home : ℕ) (node : Node) (callee : Callee) (arguments : List Node) → node ≡ nodes.Call callee arguments → NamesSmallAreas home node → All (NamesSmallAreas home) arguments
 unfolding NamesSmallAreas
-small_call home node name arguments is h = small_all home arguments (subst (All IsSmall) (ap (λ n. areas_named n home) is ∙ fold_call (List Area) (areas_step home) name arguments) h)
+small_call home node callee arguments is h = small_all home arguments (subst (All IsSmall) (ap (λ n. areas_named n home) is ∙ fold_call (List Area) (areas_step home) callee arguments) h)
 
 pub small_chain : (home : ℕ) (node : Node) (operands : List Node) (ops : List Operator) → node ≡ nodes.Chain operands ops → NamesSmallAreas home node → All (NamesSmallAreas home) operands
 unfolding NamesSmallAreas

@@ -31,6 +31,12 @@ ComesTo-same a b r e h = subst (λ x. ComesTo x r) (sym e) h
 pub ComesTo-then : (a : Answer) (v : Value) (next : Value → Answer) (r : Result Value Halt) → a ≡ Val v → ComesTo (next v) r → ComesTo (then_with a next) r
 ComesTo-then a v next r e h = subst (λ x. ComesTo (then_with x next) r) (sym e) h
 
+-- going on alike behind an answer comes to the same
+pub then_with-same : (a : Answer) (f g : Value → Answer) → ((v : Value) → f v ≡ g v) → then_with a f ≡ then_with a g
+then_with-same (Val v) f g h = h v
+then_with-same (Asks site name args) f g h = refl
+then_with-same (Needs topic) f g h = refl
+
 -- what holds anyway, holds where there is a value
 pub OnOk-from : (P : Type 0) (r : Result Value Halt) → P → OnOk r P
 OnOk-from P (Ok v) p = p

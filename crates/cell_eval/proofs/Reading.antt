@@ -4,7 +4,7 @@ use Rattle.std.proofs.Math.Bool.{or-true}
 use Rattle.cell_values.specs.declared.topics.Topic.{Topic}
 use Rattle.cell_values.specs.declared.values.Value.{Value}
 use Rattle.cell_values.specs.Topic.{same_topic}
-use Rattle.cell_eval.specs.Resuming.{AgreesWith, is_listed, answer_knowing, Foretells, AreRead}
+use Rattle.cell_eval.specs.Resuming.{AgreesWith, is_listed, answer_knowing, Foretells, TopicsSuffice}
 use Rattle.cell_eval.proofs.Deciding.{decides_formula}
 use Rattle.cell_eval.proofs.Decisions.{Known, Decision, Gives, Calls, Looks, looked, run}
 use Rattle.cell_values.proofs.PublicLaws.{same_topic-refl}
@@ -43,10 +43,10 @@ foretells_run snapshot known h (Looks topic next) = foretells_looked snapshot kn
 pub topics_read : World → Node → (Topic → Value) → List Topic
 topics_read world tree snapshot = path snapshot (decides_formula world tree).decision
 
--- they are all that it reads
-pub are_read : (world : World) (tree : Node) (snapshot : Topic → Value) → AreRead world tree snapshot (topics_read world tree snapshot)
+-- they suffice
+pub topics_suffice : (world : World) (tree : Node) (snapshot : Topic → Value) → TopicsSuffice world tree snapshot (topics_read world tree snapshot)
 unfolding topics_read
-are_read world tree snapshot =
+topics_suffice world tree snapshot =
     let d = decides_formula world tree in
     record {
       foretold = λ known h.

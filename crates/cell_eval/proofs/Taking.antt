@@ -6,12 +6,12 @@ use Rattle.cell_values.specs.declared.values.Value.{Value}
 use Rattle.cell_eval.specs.declared.halts.Halt.{Halt}
 use Rattle.cell_eval.specs.declared.halts.Halt.TheVariants as halts
 use Rattle.cell_eval.specs.Steps.{Halts, IsTaken, HaltsTaken, AreTaken, HaltTaken, taken_area}
-use Rattle.cell_eval.proofs.Halting.{Halts-same, Halts-then}
+use Rattle.cell_eval.proofs.Halting.{Halts-same, Halts-then, then_with-same}
 use Rattle.functions.specs.declared.arguments.Arg.{Arg}
 use Rattle.functions.specs.declared.arguments.Arg.TheVariants as inputs
 use Rattle.functions.specs.declared.functions.Function.{Function}
 use Rattle.functions.specs.Functions.{takes_area}
-use Rattle.workbook.specs.Evaluation.{World, Answer, Val, Asks, Needs, Argument, then_with, with_input, with_inputs, area_input}
+use Rattle.workbook.specs.Evaluation.{World, Answer, Val, Argument, then_with, with_input, with_inputs, area_input}
 
 -- ---- one argument
 -- the values of an area
@@ -42,15 +42,10 @@ taken_memory world f place argument = record { stays = λ next. tt }
 
 -- ---- all arguments
 -- going on alike comes to the same
-then-same : (a : Answer) (f g : Value → Answer) → ((v : Value) → f v ≡ g v) → then_with a f ≡ then_with a g
-then-same (Val v) f g h = h v
-then-same (Asks site name args) f g h = refl
-then-same (Needs topic) f g h = refl
-
 input-same : (world : World) (takes : Bool) (area : Option Area) (value : Answer) (f g : Arg → Answer) → ((arg : Arg) → f arg ≡ g arg) → with_input world takes (record { area = area; value = value }) f ≡ with_input world takes (record { area = area; value = value }) g
 input-same world true (Some area) value f g h = h (area_input world area)
-input-same world true None value f g h = then-same value (λ v. f (inputs.Direct v)) (λ v. g (inputs.Direct v)) (λ v. h (inputs.Direct v))
-input-same world false area value f g h = then-same value (λ v. f (inputs.Direct v)) (λ v. g (inputs.Direct v)) (λ v. h (inputs.Direct v))
+input-same world true None value f g h = then_with-same value (λ v. f (inputs.Direct v)) (λ v. g (inputs.Direct v)) (λ v. h (inputs.Direct v))
+input-same world false area value f g h = then_with-same value (λ v. f (inputs.Direct v)) (λ v. g (inputs.Direct v)) (λ v. h (inputs.Direct v))
 
 inputs-same : (world : World) (f : Function) (place : ℕ) (arguments : List Argument) (m n : List Arg → Answer) → ((args : List Arg) → m args ≡ n args) → with_inputs world f place arguments m ≡ with_inputs world f place arguments n
 inputs-same world f place [] m n h = h []

@@ -1,7 +1,7 @@
 -- How much there is to evaluate below a part of a tree: a number that falls with each call of the recursion.
 use Rattle.std.proofs.Common.{◌≡◌, ℕ, zero, suc, ◌+◌, ◌<◌, List, [], ◌∷◌, map, length, get_or, refl, ap, ◌∙◌, arith}
-use Rattle.cell_values.specs.declared.names.Name.{Name}
 use Rattle.formula_parse.proofs.PublicLaws.{fold_call, fold_parentheses, fold_negation, fold_chain}
+use Rattle.formula_parse.specs.declared.callees.Callee.{Callee}
 use Rattle.formula_parse.specs.declared.nodes.Node.{Node}
 use Rattle.formula_parse.specs.declared.nodes.Node.TheFolds.{fold-Node}
 use Rattle.formula_parse.specs.declared.nodes.Node.TheOpen.{Node-F}
@@ -22,7 +22,7 @@ weight_step (layer.Error e) = 0
 weight_step (layer.Boolean b) = 0
 weight_step (layer.Reference r) = 0
 weight_step (layer.Area a b) = 0
-weight_step (layer.Call name arguments) = weighed arguments + 3
+weight_step (layer.Call callee arguments) = weighed arguments + 3
 weight_step (layer.Parentheses inner) = inner + 1
 weight_step (layer.Negation count operand) = operand + 1
 weight_step (layer.Chain operands operators) = weighed operands + 3
@@ -36,9 +36,9 @@ unfoldable pub weights : List Node → ℕ
 weights ns = weighed (map weight ns)
 
 -- the weight of a call
-pub weight_call : (node : Node) (name : Name) (arguments : List Node) → node ≡ nodes.Call name arguments → weight node ≡ weights arguments + 3
+pub weight_call : (node : Node) (callee : Callee) (arguments : List Node) → node ≡ nodes.Call callee arguments → weight node ≡ weights arguments + 3
 unfolding weight weights weight_step
-weight_call node name arguments is = ap weight is ∙ fold_call ℕ weight_step name arguments
+weight_call node callee arguments is = ap weight is ∙ fold_call ℕ weight_step callee arguments
 
 -- the weight of a chain
 pub weight_chain : (node : Node) (operands : List Node) (ops : List Operator) → node ≡ nodes.Chain operands ops → weight node ≡ weights operands + 3

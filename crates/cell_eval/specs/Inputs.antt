@@ -1,4 +1,4 @@
--- Entries in the order of cells, read cell by cell.
+-- For the crate's own functions: entries in the order of cells, read cell by cell.
 use Rattle.std.specs.Prelude.{if◌then◌else◌, List, [], ◌∷◌}
 use Rattle.std.specs.Ordering.{is_lt}
 use Rattle.cell_refs.specs.declared.grid.Cell.{Cell}

@@ -1,7 +1,6 @@
 -- What a job says of the world of its formula.
 use Rattle.std.specs.Prelude.{ℕ, nat_eq, List, Option, Some, unwrap_or}
 use Rattle.std.specs.Map.{lookup}
-use Rattle.std.specs.Str.{bytes_eq}
 use Rattle.addin_types.specs.declared.registrations.Registration.{Registration}
 use Rattle.cell_refs.specs.declared.grid.Cell.{Cell}
 use Rattle.cell_refs.specs.Cell.{same_cell}
@@ -11,6 +10,7 @@ use Rattle.cell_values.specs.declared.values.Value.TheVariants as values
 use Rattle.cell_values.specs.Topic.{same_topic}
 use Rattle.cell_eval.specs.declared.jobs.Job.{Job}
 use Rattle.workbook.specs.Evaluation.{World}
+use Rattle.workbook.specs.Registry.{registration_of}
 
 -- the value of a cell: that among the inputs, else Blank
 abbrev pub input_of : List (Cell × Value) → Cell → Value
@@ -23,10 +23,6 @@ topic_value topics topic = lookup (same_topic topic) topics
 -- the accepted value of a site, if there is one
 abbrev pub result_at : List (ℕ × Value) → ℕ → Option Value
 result_at results site = lookup (nat_eq site) results
-
--- what a name was registered with, if it was
-abbrev pub registration_of : List (List ℕ × Registration) → List ℕ → Option Registration
-registration_of functions name = lookup (bytes_eq name) functions
 
 -- the world of a job's formula, where the added functions answer so
 unfoldable pub world_of : (List ℕ → List Value → Value) → Job → World

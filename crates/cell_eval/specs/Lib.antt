@@ -1,8 +1,9 @@
--- What the contracts of this crate cite.
-pub mod Errors
-pub mod Inputs
+-- What the product means.
 pub mod Jobs
 pub mod Outcomes
-pub mod Plans
 pub mod Resuming
+-- What the crate's own functions keep.
+pub mod Added
+pub mod Choices
+pub mod Inputs
 pub mod Steps

@@ -1,4 +1,4 @@
--- What the steps of an evaluation come to.
+-- For the crate's own functions: what the steps of an evaluation come to.
 use Rattle.std.specs.Prelude.{◌≡◌, ℕ, ℤ, suc, pos, ◌+◌, ◌-◌, ◌≤◌, nat_le, int_lt, unsigned_abs, Bool, true, false, ◌&&◌, if◌then◌else◌, List, [], ◌∷◌, map, slice_get, All, Option, Some, None, Result, Ok, Err}
 use Rattle.std.specs.Option.{option_map_or}
 use Rattle.cell_refs.specs.declared.areas.Area.{Area}
@@ -6,15 +6,19 @@ use Rattle.cell_refs.specs.Area.{size_of}
 use Rattle.cell_values.specs.declared.errors.ErrorKind.{ErrorKind}
 use Rattle.cell_values.specs.declared.errors.ErrorKind.TheVariants as errors
 use Rattle.cell_values.specs.declared.values.Value.{Value}
+use Rattle.cell_eval.specs.declared.choices.Chooser.{Chooser}
 use Rattle.cell_eval.specs.declared.halts.Halt.{Halt}
 use Rattle.cell_eval.specs.declared.halts.Halt.TheVariants as halts
+use Rattle.cell_eval.specs.Choices.{chooser_answer}
+use Rattle.formula_parse.specs.declared.callees.Callee.{Callee}
+use Rattle.formula_parse.specs.declared.callees.Callee.TheVariants as callees
 use Rattle.formula_parse.specs.declared.nodes.Node.{Node}
 use Rattle.formula_parse.specs.declared.operators.Operator.{Operator}
 use Rattle.formula_parse.specs.Tree.{areas_named, site_count}
 use Rattle.functions.specs.declared.arguments.Arg.{Arg}
 use Rattle.functions.specs.declared.functions.Function.{Function}
-use Rattle.functions.specs.Functions.{function_named, takes_area}
-use Rattle.workbook.specs.Evaluation.{World, Answer, Val, Asks, Needs, Argument, part_of, arguments_of, answers_of, with_all, with_input, with_inputs, chain_value, operation_of, call_answer, if_answer, unless_answer, choose_answer, own_site}
+use Rattle.functions.specs.Functions.{takes_area}
+use Rattle.workbook.specs.Evaluation.{World, Answer, Val, Asks, Needs, Argument, part_of, arguments_of, answers_of, with_all, with_input, with_inputs, chain_value, operation_of, call_answer, rtd_answer, added_answer, chosen_at, own_site}
 
 -- the answer of a part of a tree behind so many sites
 unfoldable pub answer_at : World → Node → ℕ → Answer
@@ -46,28 +50,28 @@ unfoldable pub chain_at : World → List Node → List Operator → ℕ → Answ
 chain_at world operands ops before = with_all (answers_at world operands before) (λ vs. Val (chain_value ops vs))
 
 -- the answer of a call behind so many sites, before Blank is made 0
-unfoldable pub call_at : World → List ℕ → List Node → ℕ → Answer
-call_at world name arguments before =
-    call_answer world (function_named name) (suc before) name (arguments_at world arguments (before + own_site name))
+unfoldable pub call_at : World → Callee → List Node → ℕ → Answer
+call_at world callee arguments before = call_answer world callee (suc before) (arguments_at world arguments (before + own_site callee))
 
--- the answer of a call of a function behind so many sites, before Blank is made 0
+-- the answer of a call of a built-in function behind so many sites, before Blank is made 0
 unfoldable pub built_in_at : World → Function → List Node → ℕ → Answer
-built_in_at world f arguments before = call_answer world (Some f) 0 [] (arguments_at world arguments before)
+built_in_at world f arguments before = call_answer world (callees.BuiltIn f) 0 (arguments_at world arguments before)
 
--- IF, IFERROR or IFNA, and CHOOSE behind so many sites
-unfoldable pub if_at : World → List Node → ℕ → Answer
-if_at world arguments before = if_answer (arguments_at world arguments before)
+-- the answer of a call of RTD behind so many sites
+unfoldable pub rtd_at : World → List Node → ℕ → Answer
+rtd_at world arguments before = rtd_answer world (arguments_at world arguments before)
 
-unfoldable pub unless_at : World → (Value → Bool) → List Node → ℕ → Answer
-unless_at world is_such arguments before = unless_answer is_such (arguments_at world arguments before)
+-- the answer of a call of an added function behind so many sites, before Blank is made 0
+unfoldable pub added_at : World → List ℕ → List Node → ℕ → Answer
+added_at world name arguments before = added_answer world (world.registered name) (suc before) name (arguments_at world arguments (before + 1))
 
-unfoldable pub choose_at : World → List Node → ℕ → Answer
-choose_at world arguments before = choose_answer (arguments_at world arguments before)
+-- the answer of a function that chooses behind so many sites
+unfoldable pub chooser_at : World → Chooser → List Node → ℕ → Answer
+chooser_at world chooser arguments before = chooser_answer chooser (arguments_at world arguments before)
 
--- the place that CHOOSE takes among so many options, or what is wrong with it
-abbrev pub place_of : Result ℤ ErrorKind → ℕ → Result ℕ ErrorKind
-place_of (Err kind) count = Err kind
-place_of (Ok n) count = if int_lt (pos 0) n && nat_le (unsigned_abs n) count then Ok (unsigned_abs n - 1) else Err errors.Value
+-- the answer of the argument at a place behind so many sites
+unfoldable pub only_at : World → List Node → ℕ → ℕ → Answer
+only_at world arguments place before = chosen_at (slice_get (arguments_at world arguments before) place)
 
 -- what stands left in a chain combined with the operand behind the operator at a place
 abbrev pub combination_of : List Operator → ℕ → Value → Value → Value

@@ -146,25 +146,25 @@ impl Results {
 
 /// The registered ones among the names that a formula calls, with what they were registered with.
 #[derive(Debug, Drop)]
-pub struct Functions {
+pub struct Registrations {
     entries: Vec<(Name, Registration)>,
 }
 
-impl Model for Functions {
+impl Model for Registrations {
     ghost use Rattle.std.specs.Prelude.{List, ℕ};
     ghost use Rattle.addin_types.specs.declared.registrations.Registration.{Registration as OneRegistration};
 
     ghost Value = { List (List ℕ × OneRegistration) };
 
-    ghost view = { λ f. f.entries.items };
+    ghost view = { λ r. r.entries.items };
 }
 
-impl Functions {
-    /// The functions of these entries.
-    pub fn new(entries: Vec<(Name, Registration)>) -> Functions
+impl Registrations {
+    /// The registrations of these entries.
+    pub fn new(entries: Vec<(Name, Registration)>) -> Registrations
         ensures { result ≡ entries.items }
     {
-        Functions { entries }
+        Registrations { entries }
     }
 
     /// The entries.
@@ -182,7 +182,7 @@ impl Functions {
     }
 }
 
-/// One formula, and what is known for its evaluation.
+/// One formula, and what is known for its evaluation. `round` is the number of the recalculation that runs.
 #[derive(Debug, Drop)]
 pub struct Job {
     pub round: u64,
@@ -191,7 +191,7 @@ pub struct Job {
     pub inputs: Inputs,
     pub topics: Topics,
     pub results: Results,
-    pub functions: Functions,
+    pub functions: Registrations,
 }
 
 /// How far an evaluation came: to a value, to the first topic that isn't known, or to the first asynchronous call

@@ -1,7 +1,9 @@
 //! Evaluates one formula, as far as it comes with what is known.
 #![tactic(auto)]
 
+mod added;
 mod area_values;
+mod choices;
 mod evaluation;
 mod halts;
 mod jobs;
@@ -9,14 +11,14 @@ mod laws;
 mod lookups;
 mod operations;
 mod outcomes;
-mod plans;
 mod resuming;
 mod sites;
 #[cfg(test)]
 mod tests;
 mod topics;
 
-pub use jobs::{Functions, Inputs, Job, Outcome, Results, Topics};
-pub use laws::topics_read;
+pub use cell_values::Topic;
+pub use jobs::{Inputs, Job, Outcome, Registrations, Results, Topics};
+pub use laws::sufficient_topics;
 pub use outcomes::eval;
 pub use resuming::eval_closed;

@@ -1,5 +1,6 @@
 ghost use Rattle.std.specs.Prelude.{◌≡◌, IfOk};
-ghost use Rattle.cell_eval.specs.Jobs.{topic_value, result_at, registration_of};
+ghost use Rattle.workbook.specs.Registry.{registration_of};
+ghost use Rattle.cell_eval.specs.Jobs.{topic_value, result_at};
 
 use addin_types::Registration;
 use cell_values::{Memory, Name, Topic, Value};

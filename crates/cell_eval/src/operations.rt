@@ -1,10 +1,9 @@
 ghost use Rattle.std.specs.Prelude.{◌≡◌, IfOk};
 ghost use Rattle.cell_values.specs.Value.{final_of};
-ghost use Rattle.cell_eval.specs.Errors.{is_such};
-ghost use Rattle.cell_eval.specs.Steps.{combination_of, place_of};
+ghost use Rattle.cell_eval.specs.Steps.{combination_of};
 ghost use Rattle.workbook.specs.Evaluation.{operation_of, repeated_negation};
 
-use cell_values::{ErrorKind, Memory, Value, add, compare, div, join, mul, negate, sub};
+use cell_values::{Memory, Value, add, compare, div, join, mul, negate, sub};
 use formula_parse::Operator;
 use std::alloc::Global;
 
@@ -57,38 +56,5 @@ pub fn finished(value: Value) -> Value
     match value {
         Value::Blank => Value::Num(0),
         other => other,
-    }
-}
-
-/// Which errors a second argument stands in for.
-#[derive(Clone, Copy)]
-pub enum Errors {
-    All,
-    NotAvailable,
-}
-
-/// Whether a value is such an error.
-pub fn is_such(errors: Errors, value: &Value) -> bool
-    ensures { result ≡ is_such errors value.now }
-{
-    match errors {
-        Errors::All => matches!(value, Value::Error(_)),
-        Errors::NotAvailable => matches!(value, Value::Error(ErrorKind::Na)),
-    }
-}
-
-/// The place that CHOOSE takes among so many options, or what is wrong with it.
-pub fn place_of(number: Result<i64, ErrorKind>, count: usize) -> Result<usize, ErrorKind>
-    ensures { result ≡ place_of number count }
-{
-    match number {
-        Err(kind) => Err(kind),
-        Ok(n) => {
-            if 0 < n && n as u64 <= count as u64 {
-                Ok((n - 1) as usize)
-            } else {
-                Err(ErrorKind::Value)
-            }
-        }
     }
 }

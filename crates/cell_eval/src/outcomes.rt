@@ -3,7 +3,7 @@ ghost use Rattle.workbook.specs.Evaluation.{answer_of};
 ghost use Rattle.cell_eval.specs.Jobs.{world_of};
 ghost use Rattle.cell_eval.specs.Outcomes.{outcome_answer};
 
-use super::evaluation::part;
+use super::evaluation::Evaluator;
 use super::halts::Halt;
 use super::jobs::{Job, Outcome};
 use super::operations::finished;
@@ -16,8 +16,9 @@ pub fn eval<F: AddIns>(alloc: Global, job: &Job, addins: &F) -> Result<Outcome, 
     ensures { IfOk result (λ outcome. outcome_answer outcome
         ≡ answer_of (world_of F.answer job.now) job.now.tree) }
 {
+    let evaluator = Evaluator { alloc, job, addins };
     let mut sites = 0;
-    match part(alloc, job, addins, job.tree.root(), &mut sites) {
+    match evaluator.part(job.tree.root(), &mut sites) {
         Ok(value) => Ok(Outcome::Done(finished(value))),
         Err(Halt::Memory) => Err(Memory),
         Err(Halt::Topic(topic)) => Ok(Outcome::Topic(topic)),

@@ -4,6 +4,7 @@ ghost use Rattle.cell_eval.specs.declared.jobs.Outcome.TheVariants as outcomes;
 ghost use Rattle.workbook.specs.Evaluation.{answer_of};
 ghost use Rattle.cell_eval.specs.Jobs.{closed_world, world_of};
 ghost use Rattle.cell_eval.specs.Outcomes.{outcome_answer};
+ghost use Rattle.cell_eval.specs.Resuming.{AreNeeded};
 
 use super::jobs::{Job, Outcome};
 use super::outcomes::eval;
@@ -24,8 +25,11 @@ pub fn eval_closed<F: AddIns>(
     ensures ended { IfOk result (λ outcome. (topic : OneTopic) → outcome ≢ outcomes.Topic topic) }
     ensures known { IfOk result (λ outcome. outcome_answer outcome
         ≡ answer_of (world_of F.answer job.new) job.new.tree) }
-    ensures grown { (added : List OneTopic) × (job.new
-        ≡ record job.old { topics = job.old.topics ++ map (λ topic. (topic, value.now)) added }) }
+    ensures round { job.new.round ≡ job.old.round }
+
+    // Each added topic is the next one that the formula needed; the job didn't know it before.
+    ensures grown { (added : List OneTopic) × (AreNeeded F.answer job.old value.now added × (job.new
+        ≡ record job.old { topics = job.old.topics ++ map (λ topic. (topic, value.now)) added })) }
 {
     'topics: loop {
         match eval(alloc, job, addins)? {

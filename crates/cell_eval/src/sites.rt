@@ -1,10 +1,9 @@
 ghost use Rattle.std.specs.Prelude.{◌≡◌, ◌+◌, ◌≤◌};
-ghost use Rattle.formula_parse.specs.Tree.{is_built_in, site_count};
+ghost use Rattle.formula_parse.specs.Tree.{site_count};
+ghost use Rattle.workbook.specs.Evaluation.{own_site};
 ghost use Rattle.cell_eval.specs.Steps.{sites_among};
 
-use cell_values::Name;
-use formula_parse::Node;
-use functions::Function;
+use formula_parse::{Callee, Node};
 
 /// Counts the sites of a part that isn't evaluated.
 #[cycle(pass)]
@@ -19,10 +18,8 @@ pub fn pass(node: &Node, sites: &mut u16)
         | Node::Boolean(_)
         | Node::Reference(_)
         | Node::Area(_, _) => {}
-        Node::Call { name, arguments } => {
-            if !is_known(name) {
-                *sites += 1;
-            }
+        Node::Call { callee, arguments } => {
+            *sites += own_site(callee);
             pass_all(arguments.as_slice(), sites);
         }
         Node::Parentheses(inner) => pass(inner.get(), sites),
@@ -42,9 +39,12 @@ pub fn pass_all(nodes: &[Node], sites: &mut u16)
     }
 }
 
-/// Whether a name is that of a function or `RTD`.
-fn is_known(name: &Name) -> bool
-    ensures { result ≡ is_built_in name.now }
+/// How many sites a call is itself: one where it is that of an added function.
+fn own_site(callee: &Callee) -> u16
+    ensures { result ≡ own_site callee.now }
 {
-    Function::of(name.as_str()).is_some() || name.as_str() == "RTD"
+    match callee {
+        Callee::BuiltIn(_) | Callee::Rtd => 0,
+        Callee::Added(_) => 1,
+    }
 }

@@ -76,7 +76,7 @@ fn results_of(alloc: Global, results: &[(u16, &str)]) -> Result<Results, Fail> {
 
 /// The registered functions: DOUBLE and ECHO of one argument, which answer at once, and SLOW of one and PAIR of two,
 /// which don't.
-fn functions_of(alloc: Global) -> Result<Functions, Fail> {
+fn functions_of(alloc: Global) -> Result<Registrations, Fail> {
     let mut entries = Vec::new(alloc);
     for (name, arguments, kind) in [
         ("DOUBLE", 1, Kind::Plain),
@@ -91,7 +91,7 @@ fn functions_of(alloc: Global) -> Result<Functions, Fail> {
         };
         entries.push((Name::new(alloc, name)?, registration))?;
     }
-    Ok(Functions::new(entries))
+    Ok(Registrations::new(entries))
 }
 
 /// The words of values, with a space before each.

@@ -3,8 +3,9 @@ ghost use Rattle.std.specs.List.{list_any};
 ghost use Rattle.std.specs.Str.{chars};
 ghost use Rattle.cell_values.specs.declared.values.Value.{Value as OneValue};
 ghost use Rattle.cell_values.specs.Coercion.{text_of};
+ghost use Rattle.functions.specs.Functions.{is_within};
 ghost use Rattle.functions.specs.Inputs.{all_ok};
-ghost use Rattle.workbook.specs.Evaluation.{topic_answer, LONGEST_STRING};
+ghost use Rattle.workbook.specs.Evaluation.{topic_answer, LONGEST_STRING, RTD_ARITY};
 ghost use Rattle.cell_eval.specs.Jobs.{world_of};
 ghost use Rattle.cell_eval.specs.Steps.{ComesTo};
 
@@ -15,7 +16,14 @@ use cell_values::{ErrorKind, Memory, Name, NameFault, Text, Texts, Topic, Value,
 use std::alloc::Global;
 
 /// The greatest number of characters of a topic's string.
-const LONGEST: usize = 255;
+const LONGEST_STRING: usize = 255;
+
+/// Whether RTD takes so many arguments.
+pub fn takes_rtd_count(count: usize) -> bool
+    ensures { result ≡ is_within RTD_ARITY count }
+{
+    3 <= count && count <= 18
+}
 
 /// The texts that values count as, or the first error.
 fn texts_of(alloc: Global, values: &[Value]) -> Result<Result<Vec<Text>, ErrorKind>, Memory>
@@ -48,7 +56,7 @@ fn is_any_too_long(strings: &[Text]) -> bool
 fn is_too_long(string: &Text) -> bool
     ensures { result ≡ nat_lt LONGEST_STRING (length (chars string.now)) }
 {
-    string.as_str().chars().count() > LONGEST
+    string.as_str().chars().count() > LONGEST_STRING
 }
 
 /// The value of the topic that texts name, or what they are wrong in.

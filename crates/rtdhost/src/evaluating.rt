@@ -16,7 +16,7 @@ ghost use Rattle.rtdhost.specs.Inputs.{answer_value, known_input, value_if_known
 use super::gathering::inputs_if_known;
 use super::sights::Sight;
 use addin_types::SampleAddIns;
-use cell_eval::{Functions, Inputs, Job, Outcome, Results, Topics, eval_closed};
+use cell_eval::{Inputs, Job, Outcome, Registrations, Results, Topics, eval_closed};
 use cell_refs::Cell;
 use cell_values::{ErrorKind, Memory, Value};
 use formula_parse::{Tree, names};
@@ -42,7 +42,7 @@ fn formula_value(
         inputs,
         topics: Topics::new(Vec::new(alloc)),
         results: Results::new(Vec::new(alloc)),
-        functions: Functions::new(Vec::new(alloc)),
+        functions: Registrations::new(Vec::new(alloc)),
     };
     let outcome = eval_closed(alloc, &mut job, &SampleAddIns, &Value::Error(ErrorKind::Na))?;
     Ok(value_told(outcome))

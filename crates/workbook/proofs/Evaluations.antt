@@ -1,8 +1,7 @@
 -- The evaluation of a formula depends on the values of the cells that it names alone.
-use Rattle.std.proofs.Common.{◌≡◌, ℕ, ℤ, suc, ◌+◌, ◌-◌, Bool, true, false, cond, List, [], ◌∷◌, ◌++◌, map, flat_map, length, All, Option, Some, None, refl, ap, sym, subst, ◌∙◌, arith, codes}
+use Rattle.std.proofs.Common.{◌≡◌, ℕ, ℤ, suc, ◌+◌, ◌-◌, Bool, true, false, cond, List, [], ◌∷◌, ◌++◌, map, flat_map, length, All, Option, Some, None, refl, ap, sym, subst, ◌∙◌, arith}
 use mathlib.Core.Path.{fun_ext}
 use Rattle.std.specs.List.{AllByRecursion}
-use Rattle.std.specs.Str.{bytes_eq}
 use Rattle.std.proofs.lemmas.Grind.{flat_map-append}
 use Rattle.std.proofs.lemmas.List.Elements.{All-head, All-tail}
 use Rattle.addin_types.specs.declared.registrations.Registration.{Registration}
@@ -14,9 +13,10 @@ use Rattle.cell_refs.specs.RefText.{cell_at}
 use Rattle.cell_refs.proofs.PublicLaws.{from_first, no_next}
 use Rattle.cell_values.specs.declared.errors.ErrorKind.{ErrorKind}
 use Rattle.cell_values.specs.declared.errors.ErrorKind.TheVariants as errors
-use Rattle.cell_values.specs.declared.names.Name.{Name}
 use Rattle.cell_values.specs.declared.texts.Text.{Text}
 use Rattle.cell_values.specs.declared.values.Value.{Value}
+use Rattle.formula_parse.specs.declared.callees.Callee.{Callee}
+use Rattle.formula_parse.specs.declared.callees.Callee.TheVariants as callees
 use Rattle.formula_parse.specs.declared.nodes.Node.{Node}
 use Rattle.formula_parse.specs.declared.nodes.Node.TheVariants as nodes
 use Rattle.formula_parse.specs.declared.nodes.Node.TheOpen as layer
@@ -24,12 +24,12 @@ use Rattle.formula_parse.specs.declared.operators.Operator.{Operator}
 use Rattle.formula_parse.specs.Tree.{areas_named, areas_step, concat, precedents}
 use Rattle.formula_parse.proofs.PublicLaws.{fold_number, fold_text, fold_error, fold_boolean, fold_reference, fold_area, fold_call, fold_parentheses, fold_negation, fold_chain, node_induction}
 use Rattle.functions.specs.Applied.{result_of}
-use Rattle.functions.specs.Functions.{function_named, arity_of, takes_area, is_within}
+use Rattle.functions.specs.Functions.{arity_of, takes_area, is_within}
 use Rattle.functions.specs.declared.arguments.Arg.{Arg}
 use Rattle.functions.specs.declared.arguments.Arg.TheVariants as inputs
 use Rattle.functions.specs.declared.functions.Function.{Function}
 use Rattle.functions.specs.declared.functions.Function.TheVariants as functions
-use Rattle.workbook.specs.Evaluation.{World, Answer, Val, Part, Argument, answer_of, part_of, part_step, final_answer, error_answer, with_input, with_inputs, function_answer, rtd_answer, added_answer, call_answer, own_site, sites_in, arguments_of}
+use Rattle.workbook.specs.Evaluation.{World, Answer, Val, Part, Argument, answer_of, part_of, part_step, final_answer, error_answer, with_input, with_inputs, function_answer, added_answer, call_answer, own_site, sites_in, arguments_of}
 
 -- ---- lists
 -- what holds of each of two lists together, holds of each of the first
@@ -105,19 +105,19 @@ module _ (world : World) (f g : Cell → Value) where
   function_alike functions.Choose arguments same = refl
   function_alike other arguments same = inputs_alike other 0 arguments (λ args. Val (result_of other args)) same
 
-  -- a name that is neither built in nor RTD
+  -- an added name
   added_alike : (registration : Option Registration) (site : ℕ) (name : List ℕ) (arguments : List Argument)
       → added_answer over_f registration site name arguments ≡ added_answer over_g registration site name arguments
   added_alike None site name arguments = refl
   added_alike (Some registration) site name arguments = refl
 
   -- a call
-  call_alike : (known : Option Function) (site : ℕ) (name : List ℕ) (arguments : List Argument) → AllByRecursion (λ (a : Argument). SameArea a.area) arguments
-      → call_answer over_f known site name arguments ≡ call_answer over_g known site name arguments
-  call_alike (Some function) site name arguments same =
+  call_alike : (callee : Callee) (site : ℕ) (arguments : List Argument) → AllByRecursion (λ (a : Argument). SameArea a.area) arguments
+      → call_answer over_f callee site arguments ≡ call_answer over_g callee site arguments
+  call_alike (callees.BuiltIn function) site arguments same =
       ap (λ answer. cond (is_within (arity_of function) (length arguments)) answer (error_answer errors.Value)) (function_alike function arguments same)
-  call_alike None site name arguments same =
-      ap (λ answer. cond (bytes_eq name (codes "RTD")) (rtd_answer over_f arguments) answer) (added_alike (world.registered name) site name arguments)
+  call_alike callees.Rtd site arguments same = refl
+  call_alike (callees.Added name) site arguments same = added_alike (world.registered name) site name arguments
 
   -- ---- parts
   -- one part in both worlds, which refers to an area of the same values if to any
@@ -164,12 +164,12 @@ module _ (world : World) (f g : Cell → Value) where
   names_known node areas e each = subst (λ list. AllByRecursion SameValue (flat_map cells_of list)) e each
 
   -- a call over its parts
-  step_call : (name : Name) (parts others : List Part) → AllAlike parts others → Alike (part_step over_f (layer.Call name parts)) (part_step over_g (layer.Call name others))
-  step_call name parts others alike = record {
+  step_call : (callee : Callee) (parts others : List Part) → AllAlike parts others → Alike (part_step over_f (layer.Call callee parts)) (part_step over_g (layer.Call callee others))
+  step_call callee parts others alike = record {
     same =
-        ap (λ (value : ℕ → Answer). record { sites = own_site name + sites_in parts; area = None; value = value })
-        (fun_ext (λ before. ap final_answer (call_alike (function_named name) (suc before) name (arguments_of (before + own_site name) parts) (placed_areas (before + own_site name) parts alike.areas))))
-        ∙ ap (λ list. part_step over_g (layer.Call name list)) alike.same;
+        ap (λ (value : ℕ → Answer). record { sites = own_site callee + sites_in parts; area = None; value = value })
+        (fun_ext (λ before. ap final_answer (call_alike callee (suc before) (arguments_of (before + own_site callee) parts) (placed_areas (before + own_site callee) parts alike.areas))))
+        ∙ ap (λ list. part_step over_g (layer.Call callee list)) alike.same;
     area = tt;
   }
 
@@ -212,11 +212,11 @@ module _ (world : World) (f g : Cell → Value) where
       (record { same = refl; area = map_alike f g (cells_of (area_of a b world.home)) (each_front SameValue (cells_of (area_of a b world.home)) [] named) })
 
   -- a call
-  depends_call : (name : Name) (arguments : List Node) → All DependsOnNamed arguments → DependsOnNamed (nodes.Call name arguments)
-  depends_call name arguments h each =
-      alike_as _ _ _ _ (fold_call Part (part_step over_f) name arguments) (fold_call Part (part_step over_g) name arguments)
-      (step_call name (map (part_of over_f) arguments) (map (part_of over_g) arguments)
-      (parts_alike arguments h (names_known (nodes.Call name arguments) (concat (map (λ n. areas_named n world.home) arguments)) (fold_call (List Area) (areas_step world.home) name arguments) each)))
+  depends_call : (callee : Callee) (arguments : List Node) → All DependsOnNamed arguments → DependsOnNamed (nodes.Call callee arguments)
+  depends_call callee arguments h each =
+      alike_as _ _ _ _ (fold_call Part (part_step over_f) callee arguments) (fold_call Part (part_step over_g) callee arguments)
+      (step_call callee (map (part_of over_f) arguments) (map (part_of over_g) arguments)
+      (parts_alike arguments h (names_known (nodes.Call callee arguments) (concat (map (λ n. areas_named n world.home) arguments)) (fold_call (List Area) (areas_step world.home) callee arguments) each)))
 
   -- what stands in parentheses
   depends_parentheses : (inner : Node) → DependsOnNamed inner → DependsOnNamed (nodes.Parentheses inner)

@@ -1,7 +1,7 @@
 -- Laws of books, and of what their cells mean.
 mod Counts
 mod Entries
-mod FunctionLaws
+mod RegistryLaws
 mod Settling
 mod Walking
 mod Reaching

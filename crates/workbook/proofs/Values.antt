@@ -1,8 +1,8 @@
 -- Where no name is registered, nothing is asked: each formula over values has a value, and so does each cell
 -- that isn't circular.
-use Rattle.std.proofs.Common.{◌≡◌, ℕ, ℤ, zero, suc, ◌+◌, ◌-◌, pos, nat_lt, int_lt, unsigned_abs, Bool, true, false, cond, ◌||◌, ◌⊎◌, inl, inr, List, [], ◌∷◌, map, length, slice_get, All, Option, Some, None, Result, Ok, Err, refl, ap, sym, subst, ◌∙◌, codes}
+use Rattle.std.proofs.Common.{◌≡◌, ℕ, ℤ, zero, suc, ◌+◌, ◌-◌, pos, nat_lt, int_lt, unsigned_abs, Bool, true, false, cond, ◌||◌, ◌⊎◌, inl, inr, List, [], ◌∷◌, map, length, slice_get, All, Option, Some, None, Result, Ok, Err, refl, ap, sym, subst, ◌∙◌}
 use Rattle.std.specs.List.{list_any, AllByRecursion}
-use Rattle.std.specs.Str.{bytes_eq, chars}
+use Rattle.std.specs.Str.{chars}
 use Rattle.std.proofs.lemmas.List.Elements.{All-head, All-tail}
 use Rattle.cell_refs.specs.declared.areas.Area.{Area}
 use Rattle.cell_refs.specs.declared.grid.Cell.{Cell}
@@ -10,7 +10,6 @@ use Rattle.cell_refs.specs.declared.references.RefText.{RefText}
 use Rattle.cell_refs.specs.RefText.{cell_at}
 use Rattle.cell_values.specs.declared.errors.ErrorKind.{ErrorKind}
 use Rattle.cell_values.specs.declared.errors.ErrorKind.TheVariants as errors
-use Rattle.cell_values.specs.declared.names.Name.{Name}
 use Rattle.cell_values.specs.declared.texts.Text.{Text}
 use Rattle.cell_values.specs.declared.topics.Topic.{Topic}
 use Rattle.cell_values.specs.declared.values.Value.{Value}
@@ -18,6 +17,8 @@ use Rattle.cell_values.specs.declared.values.Value.TheVariants as values
 use Rattle.cell_values.specs.Coercion.{text_of, truth_of}
 use Rattle.cell_values.specs.Name.{is_name}
 use Rattle.cell_values.specs.Value.{number_of, final_of}
+use Rattle.formula_parse.specs.declared.callees.Callee.{Callee}
+use Rattle.formula_parse.specs.declared.callees.Callee.TheVariants as callees
 use Rattle.formula_parse.specs.declared.nodes.Node.{Node}
 use Rattle.formula_parse.specs.declared.nodes.Node.TheVariants as nodes
 use Rattle.formula_parse.specs.declared.nodes.Node.TheOpen as layer
@@ -25,7 +26,7 @@ use Rattle.formula_parse.specs.declared.operators.Operator.{Operator}
 use Rattle.formula_parse.specs.Tree.{precedents}
 use Rattle.formula_parse.proofs.PublicLaws.{fold_number, fold_text, fold_error, fold_boolean, fold_reference, fold_area, fold_call, fold_parentheses, fold_negation, fold_chain, node_induction}
 use Rattle.functions.specs.Applied.{result_of}
-use Rattle.functions.specs.Functions.{function_named, arity_of, takes_area, is_within}
+use Rattle.functions.specs.Functions.{arity_of, takes_area, is_within}
 use Rattle.functions.specs.Inputs.{all_ok}
 use Rattle.functions.specs.Kinds.{is_error, is_na}
 use Rattle.functions.specs.declared.arguments.Arg.{Arg}
@@ -36,7 +37,7 @@ use Rattle.workbook.specs.declared.contents.Content.{Content}
 use Rattle.workbook.specs.declared.contents.Content.TheVariants as contents
 use Rattle.workbook.specs.Book.{content_at, has_formula, content_precedents, cell_precedents, formula_count}
 use Rattle.workbook.specs.Circular.{walks_on, is_circular}
-use Rattle.workbook.specs.Evaluation.{World, Answer, Val, Part, Argument, LONGEST_STRING, then_with, with_all, chain_value, repeated_negation, arguments_of, answers_of, area_input, with_input, with_inputs, branch, if_answer, unless_answer, chosen_at, choice_of, choose_answer, function_answer, known_answer, topic_answer, rtd_answer, added_answer, call_answer, final_answer, error_answer, own_site, part_of, part_step, answer_of}
+use Rattle.workbook.specs.Evaluation.{World, Answer, Val, Part, Argument, LONGEST_STRING, RTD_ARITY, then_with, with_all, chain_value, repeated_negation, arguments_of, answers_of, area_input, with_input, with_inputs, branch, if_answer, unless_answer, chosen_at, choice_of, choose_answer, function_answer, known_answer, topic_answer, rtd_answer, added_answer, call_answer, final_answer, error_answer, own_site, part_of, part_step, answer_of}
 use Rattle.workbook.specs.Meaning.{Setting, Meaning, Circ, Open, world_at, meaning_of_answer, value_in, is_open, content_meaning, meaning_within, meaning}
 use Rattle.workbook.specs.Meaning as meanings
 use Rattle.workbook.proofs.Meanings.{none_where, shows_circle, shows_within}
@@ -155,20 +156,20 @@ module _ (world : World) (all_known : (topic : Topic) → (v : Value) × (world.
   -- RTD
   rtd_valued : (arguments : List Argument) → AllByRecursion IsGiven arguments → IsValue (rtd_answer world arguments)
   rtd_valued arguments each =
-      either_valued (is_within (3, 18) (length arguments)) (with_all (map (λ a. a.value) arguments) (λ vs. topic_answer world (all_ok (map text_of vs)))) (error_answer errors.Value)
+      either_valued (is_within RTD_ARITY (length arguments)) (with_all (map (λ a. a.value) arguments) (λ vs. topic_answer world (all_ok (map text_of vs)))) (error_answer errors.Value)
       (all_valued (map (λ a. a.value) arguments) (λ vs. topic_answer world (all_ok (map text_of vs))) (given_answers arguments each) (λ vs. topic_valued (all_ok (map text_of vs))))
       (values.Error errors.Value, refl)
 
-  -- a name that is neither built in nor RTD is no function's
+  -- an added name isn't registered
   added_valued : (site : ℕ) (name : List ℕ) (arguments : List Argument) → IsValue (added_answer world (world.registered name) site name arguments)
   added_valued site name arguments = (values.Error errors.Name, ap (λ registration. added_answer world registration site name arguments) (unregistered name))
 
   -- a call
-  call_valued : (known : Option Function) (site : ℕ) (name : List ℕ) (arguments : List Argument) → AllByRecursion IsGiven arguments → IsValue (call_answer world known site name arguments)
-  call_valued (Some function) site name arguments each =
+  call_valued : (callee : Callee) (site : ℕ) (arguments : List Argument) → AllByRecursion IsGiven arguments → IsValue (call_answer world callee site arguments)
+  call_valued (callees.BuiltIn function) site arguments each =
       either_valued (is_within (arity_of function) (length arguments)) (function_answer world function arguments) (error_answer errors.Value) (function_valued function arguments each) (values.Error errors.Value, refl)
-  call_valued None site name arguments each =
-      either_valued (bytes_eq name (codes "RTD")) (rtd_answer world arguments) (added_answer world (world.registered name) site name arguments) (rtd_valued arguments each) (added_valued site name arguments)
+  call_valued callees.Rtd site arguments each = rtd_valued arguments each
+  call_valued (callees.Added name) site arguments each = added_valued site name arguments
 
   -- ---- parts
   -- a part has a value behind any number of sites
@@ -223,15 +224,14 @@ module _ (world : World) (all_known : (topic : Topic) → (v : Value) × (world.
   valued_area a b = valued_as _ _ (fold_area Part (part_step world) a b) (λ before. (values.Error errors.Value, refl))
 
   -- a call over its parts
-  step_call : (name : Name) (parts : List Part) → AllByRecursion HasValues parts → HasValues (part_step world (layer.Call name parts))
-  step_call name parts each before =
-      let arguments = arguments_of (before + own_site name) parts in
-      final_valued (call_answer world (function_named name) (suc before) name arguments)
-      (call_valued (function_named name) (suc before) name arguments (placed_valued (before + own_site name) parts each))
+  step_call : (callee : Callee) (parts : List Part) → AllByRecursion HasValues parts → HasValues (part_step world (layer.Call callee parts))
+  step_call callee parts each before =
+      let arguments = arguments_of (before + own_site callee) parts in
+      final_valued (call_answer world callee (suc before) arguments) (call_valued callee (suc before) arguments (placed_valued (before + own_site callee) parts each))
 
   -- a call
-  valued_call : (name : Name) (arguments : List Node) → All IsValued arguments → IsValued (nodes.Call name arguments)
-  valued_call name arguments h = valued_as _ _ (fold_call Part (part_step world) name arguments) (step_call name (map (part_of world) arguments) (parts_valued arguments h))
+  valued_call : (callee : Callee) (arguments : List Node) → All IsValued arguments → IsValued (nodes.Call callee arguments)
+  valued_call callee arguments h = valued_as _ _ (fold_call Part (part_step world) callee arguments) (step_call callee (map (part_of world) arguments) (parts_valued arguments h))
 
   -- what stands in parentheses
   valued_parentheses : (inner : Node) → IsValued inner → IsValued (nodes.Parentheses inner)

@@ -7,6 +7,9 @@ use Rattle.std.specs.List.Sorted.{IsStrictlySortedBy}
 use Rattle.cell_refs.specs.declared.grid.Cell.{Cell}
 use Rattle.cell_refs.specs.Cell.{cell_cmp, same_cell}
 use Rattle.addin_types.specs.declared.registrations.Registration.{Registration}
+use Rattle.cell_values.specs.declared.values.Value.{Value}
+use Rattle.cell_values.specs.declared.values.Value.TheVariants as values
+use Rattle.formula_parse.specs.declared.nodes.Node.{Node}
 use Rattle.formula_parse.specs.Tree.{precedents}
 use Rattle.workbook.specs.declared.contents.Content.{Content}
 use Rattle.workbook.specs.declared.contents.Content.TheVariants as contents
@@ -34,14 +37,18 @@ PutsContent old new cell content = (q : Cell) → content_at new q ≡ (if same_
 abbrev pub SetsContent : List (Cell × Content) → List (Cell × Content) → Cell → Content → Type 0
 SetsContent old new cell content = (q : Cell) → content_at new q ≡ (if same_cell cell q then Some content else content_at old q)
 
+-- by the value that a constant counts as, Blank where there is no content, or by the tree of a formula
+abbrev pub by_content : {A : Type 0} → (Value → A) → (Node → A) → Option Content → A
+by_content constant formula None = constant values.Blank
+by_content constant formula (Some (contents.Num n)) = constant (values.Num n)
+by_content constant formula (Some (contents.Text t)) = constant (values.Text t)
+by_content constant formula (Some (contents.Bool b)) = constant (values.Bool b)
+by_content constant formula (Some (contents.Error e)) = constant (values.Error e)
+by_content constant formula (Some (contents.Formula tree)) = formula tree
+
 -- whether a content is a formula
 abbrev pub has_formula : Option Content → Bool
-has_formula None = false
-has_formula (Some (contents.Num n)) = false
-has_formula (Some (contents.Text t)) = false
-has_formula (Some (contents.Bool b)) = false
-has_formula (Some (contents.Error e)) = false
-has_formula (Some (contents.Formula tree)) = true
+has_formula = by_content (λ v. false) (λ tree. true)
 
 -- 1 for a formula, else 0
 abbrev pub formula_weight : Content → ℕ
@@ -88,12 +95,7 @@ IsRefusal None content fault = fault ≡ faults.Memory content
 
 -- the cells that a content names, where it stands on the sheet home
 abbrev pub content_precedents : Option Content → ℕ → List Cell
-content_precedents None home = []
-content_precedents (Some (contents.Num n)) home = []
-content_precedents (Some (contents.Text t)) home = []
-content_precedents (Some (contents.Bool b)) home = []
-content_precedents (Some (contents.Error e)) home = []
-content_precedents (Some (contents.Formula tree)) home = precedents tree home
+content_precedents content home = by_content (λ v. []) (λ tree. precedents tree home) content
 
 -- the cells that the formula of a cell names
 abbrev pub cell_precedents : List (Cell × Content) → Cell → List Cell

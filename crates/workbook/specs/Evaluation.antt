@@ -1,7 +1,7 @@
 -- The evaluation of one formula: a recursion over its tree.
-use Rattle.std.specs.Prelude.{ℕ, ℤ, zero, suc, ◌+◌, ◌-◌, pos, ◌==◌, int_lt, nat_le, nat_lt, Bool, true, false, ◌&&◌, ◌||◌, if◌then◌else◌, List, [], ◌∷◌, map, length, slice_get, Option, Some, None, Result, Ok, Err, codes, unsigned_abs}
+use Rattle.std.specs.Prelude.{ℕ, ℤ, zero, suc, ◌+◌, ◌-◌, pos, ◌==◌, int_lt, nat_le, nat_lt, Bool, true, false, ◌&&◌, ◌||◌, if◌then◌else◌, List, [], ◌∷◌, map, length, slice_get, Option, Some, None, Result, Ok, Err, unsigned_abs}
 use Rattle.std.specs.List.{list_any}
-use Rattle.std.specs.Str.{bytes_eq, chars}
+use Rattle.std.specs.Str.{chars}
 use Rattle.addin_types.specs.declared.registrations.Kind.{Kind}
 use Rattle.addin_types.specs.declared.registrations.Kind.TheVariants as kinds
 use Rattle.addin_types.specs.declared.registrations.Registration.{Registration}
@@ -18,19 +18,20 @@ use Rattle.cell_values.specs.Coercion.{text_of, truth_of, join_of}
 use Rattle.cell_values.specs.Comparison.{comparison_of}
 use Rattle.cell_values.specs.Name.{is_name}
 use Rattle.cell_values.specs.Value.{number_of, add_of, sub_of, mul_of, div_of, negate_of, final_of}
+use Rattle.formula_parse.specs.declared.callees.Callee.{Callee}
+use Rattle.formula_parse.specs.declared.callees.Callee.TheVariants as callees
 use Rattle.formula_parse.specs.declared.nodes.Node.{Node}
 use Rattle.formula_parse.specs.declared.nodes.Node.TheFolds.{fold-Node}
 use Rattle.formula_parse.specs.declared.nodes.Node.TheOpen.{Node-F}
 use Rattle.formula_parse.specs.declared.nodes.Node.TheOpen as layer
 use Rattle.formula_parse.specs.declared.operators.Operator.{Operator}
 use Rattle.formula_parse.specs.declared.operators.Operator.TheVariants as operators
-use Rattle.formula_parse.specs.Tree.{is_built_in}
 use Rattle.functions.specs.declared.arguments.Arg.{Arg}
 use Rattle.functions.specs.declared.arguments.Arg.TheVariants as inputs
 use Rattle.functions.specs.declared.functions.Function.{Function}
 use Rattle.functions.specs.declared.functions.Function.TheVariants as functions
 use Rattle.functions.specs.Applied.{result_of}
-use Rattle.functions.specs.Functions.{function_named, arity_of, is_within, takes_area}
+use Rattle.functions.specs.Functions.{arity_of, is_within, takes_area}
 use Rattle.functions.specs.Inputs.{all_ok}
 use Rattle.functions.specs.Kinds.{is_error, is_na}
 
@@ -203,9 +204,13 @@ topic_answer world (Ok (name ∷ machine ∷ strings)) =
     if nat_lt 0 (length machine) || list_any (λ s. nat_lt LONGEST_STRING (length (chars s))) strings then error_answer errors.Value
     else (if is_name name then known_answer world (record { server = name; strings = strings }) (world.known (record { server = name; strings = strings })) else error_answer errors.Na)
 
+-- the least and the most arguments of RTD
+abbrev pub RTD_ARITY : ℕ × ℕ
+RTD_ARITY = (3, 18)
+
 abbrev pub rtd_answer : World → List Argument → Answer
 rtd_answer world arguments =
-    if is_within (3, 18) (length arguments)
+    if is_within RTD_ARITY (length arguments)
     then with_all (map (λ a. a.value) arguments) (λ vs. topic_answer world (all_ok (map text_of vs)))
     else error_answer errors.Value
 
@@ -219,7 +224,7 @@ abbrev pub kind_answer : World → Kind → ℕ → List ℕ → List Value → 
 kind_answer world kinds.Plain site name args = Val (world.answer name args)
 kind_answer world (kinds.Asynchronous place) site name args = accepted_answer site name args (world.accepted site)
 
--- a name that is neither built in nor RTD
+-- an added name, by what it was registered with
 abbrev pub added_answer : World → Option Registration → ℕ → List ℕ → List Argument → Answer
 added_answer world None site name arguments = error_answer errors.Name
 added_answer world (Some registration) site name arguments =
@@ -228,13 +233,16 @@ added_answer world (Some registration) site name arguments =
     else error_answer errors.Value
 
 -- a call, before Blank is made 0
-abbrev pub call_answer : World → Option Function → ℕ → List ℕ → List Argument → Answer
-call_answer world (Some f) site name arguments = if is_within (arity_of f) (length arguments) then function_answer world f arguments else error_answer errors.Value
-call_answer world None site name arguments = if bytes_eq name (codes "RTD") then rtd_answer world arguments else added_answer world (world.registered name) site name arguments
+abbrev pub call_answer : World → Callee → ℕ → List Argument → Answer
+call_answer world (callees.BuiltIn f) site arguments = if is_within (arity_of f) (length arguments) then function_answer world f arguments else error_answer errors.Value
+call_answer world callees.Rtd site arguments = rtd_answer world arguments
+call_answer world (callees.Added name) site arguments = added_answer world (world.registered name) site name arguments
 
--- 1 for a name that is neither built in nor RTD, else 0
-abbrev pub own_site : List ℕ → ℕ
-own_site name = if is_built_in name then 0 else 1
+-- 1 for the call of an added name, which is a site, else 0
+abbrev pub own_site : Callee → ℕ
+own_site (callees.BuiltIn f) = 0
+own_site callees.Rtd = 0
+own_site (callees.Added name) = 1
 
 -- a part that is one value
 abbrev pub one_value : Value → Part
@@ -248,10 +256,10 @@ part_step world (layer.Error e) = one_value (values.Error e)
 part_step world (layer.Boolean b) = one_value (values.Bool b)
 part_step world (layer.Reference r) = record { sites = 0; area = Some (area_of r r world.home); value = λ before. Val (world.input (cell_at r world.home)) }
 part_step world (layer.Area a b) = record { sites = 0; area = Some (area_of a b world.home); value = λ before. error_answer errors.Value }
-part_step world (layer.Call name arguments) = record {
-  sites = own_site name + sites_in arguments;
+part_step world (layer.Call callee arguments) = record {
+  sites = own_site callee + sites_in arguments;
   area = None;
-  value = λ before. final_answer (call_answer world (function_named name) (suc before) name (arguments_of (before + own_site name) arguments));
+  value = λ before. final_answer (call_answer world callee (suc before) (arguments_of (before + own_site callee) arguments));
 }
 part_step world (layer.Parentheses inner) = record { sites = inner.sites; area = None; value = inner.value }
 part_step world (layer.Negation count operand) = record { sites = operand.sites; area = None; value = λ before. then_with (operand.value before) (λ v. Val (repeated_negation count v)) }

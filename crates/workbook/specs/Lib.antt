@@ -1,8 +1,10 @@
--- What the contracts of this crate cite, and what a workbook means.
+-- What the product means.
 pub mod Book
 pub mod Circular
 pub mod Evaluation
-pub mod Functions
 pub mod Meaning
+pub mod Registry
 pub mod Stale
 pub mod State
+-- What the crate's own functions keep.
+pub mod NamedEntries

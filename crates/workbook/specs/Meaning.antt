@@ -6,10 +6,10 @@ use Rattle.cell_refs.specs.declared.grid.Cell.{Cell}
 use Rattle.cell_values.specs.declared.topics.Topic.{Topic}
 use Rattle.cell_values.specs.declared.values.Value.{Value}
 use Rattle.cell_values.specs.declared.values.Value.TheVariants as values
+use Rattle.formula_parse.specs.declared.nodes.Node.{Node}
 use Rattle.formula_parse.specs.Tree.{precedents}
 use Rattle.workbook.specs.declared.contents.Content.{Content}
-use Rattle.workbook.specs.declared.contents.Content.TheVariants as contents
-use Rattle.workbook.specs.Book.{content_at, formula_count}
+use Rattle.workbook.specs.Book.{by_content, content_at, formula_count}
 use Rattle.workbook.specs.Circular.{is_circular}
 use Rattle.workbook.specs.Evaluation as evaluation
 use Rattle.workbook.specs.Evaluation.{World, Answer, answer_of}
@@ -63,16 +63,15 @@ is_open Circ = false
 is_open (Asks site name args) = true
 is_open Open = true
 
--- the meaning of a content of this cell, where cells mean so: a formula waits where a cell that it names asks or waits
-abbrev pub content_meaning : Setting → Cell → (Cell → Meaning) → Option Content → Meaning
-content_meaning setting cell meanings None = Val values.Blank
-content_meaning setting cell meanings (Some (contents.Num n)) = Val (values.Num n)
-content_meaning setting cell meanings (Some (contents.Text t)) = Val (values.Text t)
-content_meaning setting cell meanings (Some (contents.Bool b)) = Val (values.Bool b)
-content_meaning setting cell meanings (Some (contents.Error e)) = Val (values.Error e)
-content_meaning setting cell meanings (Some (contents.Formula tree)) =
+-- the meaning of a formula in this cell, where cells mean so: it waits where a cell that it names asks or waits
+abbrev pub formula_meaning : Setting → Cell → (Cell → Meaning) → Node → Meaning
+formula_meaning setting cell meanings tree =
     if list_any (λ d. is_open (meanings d)) (precedents tree cell.sheet) then Open
     else meaning_of_answer (answer_of (world_at setting cell (λ d. value_in (meanings d))) tree)
+
+-- the meaning of a content of this cell, where cells mean so
+abbrev pub content_meaning : Setting → Cell → (Cell → Meaning) → Option Content → Meaning
+content_meaning setting cell meanings content = by_content Val (formula_meaning setting cell meanings) content
 
 -- the meaning of a cell from which walks along formula cells have fewer steps than this
 abbrev pub meaning_within : Setting → List (Cell × Content) → ℕ → Cell → Meaning

@@ -3,7 +3,7 @@ ghost use Rattle.std.specs.Option.{option_map};
 ghost use Rattle.workbook.specs.Book.{formula_weight};
 
 use super::contents::Content;
-use super::registry::Functions;
+use super::registry::Registry;
 use addin_types::Registration;
 use cell_refs::Cell;
 use cell_values::{Memory, Name};
@@ -34,7 +34,7 @@ pub enum SetFault {
 pub struct Book {
     contents: BTreeMap<Cell, Content>,
     formulas: usize,
-    functions: Functions,
+    functions: Registry,
 }
 
 impl Model for Book {
@@ -62,7 +62,7 @@ impl Book {
     ghost use Rattle.std.specs.Map.Iter.{ShowsInOrder, deref_pair};
     ghost use Rattle.cell_refs.specs.Cell.{cell_cmp, same_cell};
     ghost use Rattle.workbook.specs.Book.{CELL_LIMIT, FORMULA_LIMIT, content_at, formula_count, is_formula, next_cell, cells_from, IsInOrder, SetsContent, PutsContent, limit_fault, exceeds_cells, exceeds_formulas, IsRefusal};
-    ghost use Rattle.workbook.specs.Functions.{AreInOrder, name_cmp, registration_of, next_name};
+    ghost use Rattle.workbook.specs.Registry.{AreInOrder, name_cmp, registration_of, next_name};
     ghost use Rattle.workbook.specs.declared.books.SetFault.TheVariants as faults;
 
     /// An empty book.
@@ -72,7 +72,7 @@ impl Book {
         Book {
             contents: BTreeMap::new(alloc),
             formulas: 0,
-            functions: Functions::new(alloc),
+            functions: Registry::new(alloc),
         }
     }
 

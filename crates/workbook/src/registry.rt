@@ -1,7 +1,8 @@
 ghost use Rattle.std.specs.Prelude.{◌≡◌, [], OnOk, OnErr, option_copied, Some, None};
 ghost use Rattle.std.specs.Option.{option_map};
 ghost use Rattle.std.specs.BTreeMap.{insert_entry, IsOrdered};
-ghost use Rattle.workbook.specs.Functions.{AreInOrder, name_cmp, key_cmp, registration_of, next_name};
+ghost use Rattle.workbook.specs.Registry.{AreInOrder, name_cmp, registration_of, next_name};
+ghost use Rattle.workbook.specs.NamedEntries.{key_cmp};
 
 use addin_types::Registration;
 use cell_values::{Memory, Name};
@@ -11,15 +12,16 @@ use std::marker::Model;
 
 /// The registered functions: to the bytes of each name the name and what it was registered with.
 #[derive(Drop)]
-pub struct Functions {
+pub struct Registry {
     alloc: Global,
     entries: BTreeMap<String, (Name, Registration)>,
 }
 
-impl Model for Functions {
+impl Model for Registry {
     ghost use Rattle.std.specs.Prelude.{List, ℕ};
     ghost use Rattle.addin_types.specs.declared.registrations.Registration.{Registration};
-    ghost use Rattle.workbook.specs.Functions.{AreInOrder, AreNamed, functions_of};
+    ghost use Rattle.workbook.specs.Registry.{AreInOrder};
+    ghost use Rattle.workbook.specs.NamedEntries.{AreNamed, functions_of};
 
     ghost Value = { List (List ℕ × Registration) };
 
@@ -29,12 +31,12 @@ impl Model for Functions {
         × AreInOrder (functions_of f.entries.entries) };
 }
 
-impl Functions {
-    /// No functions.
-    pub fn new(alloc: Global) -> Functions
+impl Registry {
+    /// No registered functions.
+    pub fn new(alloc: Global) -> Registry
         ensures { result ≡ [] }
     {
-        Functions {
+        Registry {
             alloc,
             entries: BTreeMap::new(alloc),
         }
@@ -95,7 +97,7 @@ fn insert(
 
 /// Whether a name is greater than `after`, or no name is given.
 fn is_past(after: Option<&str>, name: &str) -> bool
-    ensures { result ≡ Rattle.workbook.specs.Functions.is_past
+    ensures { result ≡ Rattle.workbook.specs.Registry.is_past
         (option_copied after.entry) name.now }
 {
     match after {

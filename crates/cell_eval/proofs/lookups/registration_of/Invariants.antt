@@ -1,5 +1,5 @@
 use Rattle.std.proofs.Common.{◌≡◌, drop}
-use Rattle.cell_eval.specs.Jobs.{registration_of}
+use Rattle.workbook.specs.Registry.{registration_of}
 use Rattle.cell_eval.proofs.lookups.registration_of.Given as goal
 
 -- what is looked for is among the entries that are still to come

@@ -4,31 +4,27 @@ use Rattle.formula_parse.specs.declared.nodes.Node.{Node}
 use Rattle.formula_parse.specs.Tree.{site_count}
 use Rattle.workbook.specs.Evaluation.{own_site}
 use Rattle.cell_eval.specs.Steps.{sites_among}
-use Rattle.cell_eval.proofs.SiteLaws.{sites_call, sites_chain, sites_parentheses, sites_negation, own_known, own_new}
+use Rattle.cell_eval.proofs.SiteLaws.{sites_call, sites_chain, sites_parentheses, sites_negation}
 use Rattle.cell_eval.proofs.Weights.{weight, weights, weight_call, weight_chain, weight_parentheses, weight_negation, weight_at}
 use Rattle.cell_eval.proofs.sites.+pass.Goals as goal
-use Rattle.cell_eval.proofs.sites.+pass.Goals.{pass-then-not-is_known, pass-else-not-is_known}
 
 pub pass-pass_all-requires : goal.pass-pass_all-requires
 pass-pass_all-requires t c =
-    let whole : site_count c.args.node.now ≡ own_site c.in-Call.name + sites_among c.in-Call.arguments = ap site_count c.in-Call.is ∙ sites_call c.in-Call.name c.in-Call.arguments in
+    let whole : site_count c.args.node.now ≡ own_site c.in-Call.callee + sites_among c.in-Call.arguments = ap site_count c.in-Call.is ∙ sites_call c.in-Call.callee c.in-Call.arguments in
     let same : sites_among c.as_slice.result.now ≡ sites_among c.in-Call.arguments = ap sites_among c.as_slice.ensures in
-    let lighter = weight_call c.args.node.now c.in-Call.name c.in-Call.arguments c.in-Call.is in
+    let lighter = weight_call c.args.node.now c.in-Call.callee c.in-Call.arguments c.in-Call.is in
     let alike : weights c.as_slice.result.now ≡ weights c.in-Call.arguments = ap weights c.as_slice.ensures in
-    let own : c.if-not-is_known.sites ≡ c.args.sites.now + own_site c.in-Call.name = elim c.if-not-is_known.branch [
-      | pass-then-not-is_known w ↦ let one = own_new c.in-Call.name c.is_known.result c.is_known.ensures w.if-not-is_known.true in omega arith
-      | pass-else-not-is_known w ↦ let none = own_known c.in-Call.name c.is_known.result c.is_known.ensures w.if-not-is_known.false in omega arith
-    ] in
     (omega arith, omega arith)
 
-pub pass-returns-after-not-is_known : goal.pass-returns-after-not-is_known
-pass-returns-after-not-is_known t c =
-    let whole : site_count c.args.node.now ≡ own_site c.in-Call.name + sites_among c.in-Call.arguments = ap site_count c.in-Call.is ∙ sites_call c.in-Call.name c.in-Call.arguments in
+pub pass-returns-in-Call : goal.pass-returns-in-Call
+pass-returns-in-Call t c =
+    let whole : site_count c.args.node.now ≡ own_site c.in-Call.callee + sites_among c.in-Call.arguments = ap site_count c.in-Call.is ∙ sites_call c.in-Call.callee c.in-Call.arguments in
     let same : sites_among c.as_slice.result.now ≡ sites_among c.in-Call.arguments = ap sites_among c.as_slice.ensures in
-    let own : c.if-not-is_known.sites ≡ c.args.sites.now + own_site c.in-Call.name = elim c.if-not-is_known.branch [
-      | pass-then-not-is_known w ↦ let one = own_new c.in-Call.name c.is_known.result c.is_known.ensures w.if-not-is_known.true in omega arith
-      | pass-else-not-is_known w ↦ let none = own_known c.in-Call.name c.is_known.result c.is_known.ensures w.if-not-is_known.false in omega arith
-    ] in
+    omega arith
+
+pub pass-overflow_add-sites : goal.pass-overflow_add-sites
+pass-overflow_add-sites t c =
+    let whole : site_count c.args.node.now ≡ own_site c.in-Call.callee + sites_among c.in-Call.arguments = ap site_count c.in-Call.is ∙ sites_call c.in-Call.callee c.in-Call.arguments in
     omega arith
 
 pub pass-pass_all-requires-in-Chain : goal.pass-pass_all-requires-in-Chain

@@ -1,7 +1,0 @@
-use Rattle.std.proofs.Common.{sym, subst}
-use Rattle.workbook.specs.Functions.{AreNamed}
-use Rattle.workbook.proofs.FunctionLaws.{named-ordered}
-use Rattle.workbook.proofs.registry.Functions.new.Goals as goal
-
-pub invariant_of-result : goal.invariant_of-result
-invariant_of-result c = (subst AreNamed (sym c.new.ensures.empty) tt, named-ordered _ c.new.ensures.ordered)
