@@ -233,11 +233,19 @@ fn a_function_takes_areas_by_the_place_of_its_argument(rt: HostRuntime) -> Resul
         assert_eq!(rt; function.takes_area(0), first, "{name}");
         assert_eq!(rt; function.takes_area(1), second, "{name}");
     }
-    for (name, least, most) in [("TRUE", 0, 0), ("FIND", 2, 3), ("SUM", 1, 255)] {
+    for (name, count, takes) in [
+        ("TRUE", 0, true),
+        ("TRUE", 1, false),
+        ("FIND", 1, false),
+        ("FIND", 2, true),
+        ("FIND", 3, true),
+        ("FIND", 4, false),
+        ("SUM", 0, false),
+        ("SUM", 255, true),
+        ("SUM", 256, false),
+    ] {
         let function = Function::of(name).ok_or("no function")?;
-        assert!(rt; function.takes_count(least) && function.takes_count(most), "{name}");
-        assert!(rt; least == 0 || !function.takes_count(least - 1), "{name}");
-        assert!(rt; !function.takes_count(most + 1), "{name}");
+        assert_eq!(rt; function.takes_count(count), takes, "{name} {count}");
     }
     Ok(())
 }
