@@ -1,2 +1,3 @@
 -- What the contracts of this crate cite.
+-- What the product means.
 pub mod Samples

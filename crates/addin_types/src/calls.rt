@@ -35,9 +35,7 @@ fn copy_values(alloc: Global, values: &[Value]) -> Result<Values, Memory>
     let mut copies = Vec::new(alloc);
     for value in values {
         let copy = value.copy()?;
-        if copies.push(copy).is_err() {
-            return Err(Memory);
-        }
+        copies.push(copy)?;
     }
     Ok(Values::new(copies))
 }

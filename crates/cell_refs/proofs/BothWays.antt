@@ -1,5 +1,6 @@
 -- A reference at the front of a text in upper case, both ways.
 use Rattle.std.proofs.Common.{◌≡◌, ◌≢◌, ℕ, ◌<◌, ◌≤◌, ◌^◌, Bool, true, false, cond, ◌&&◌, ◌==◌, List, [], ◌∷◌, ◌++◌, length, slice_index, Option, Some, None, IfSome, unwrap_or, codes, decimal, refl, ap, sym, ◌∙◌, arith, append_assoc}
+use Rattle.std.proofs.lemmas.Bool.{and_parts}
 use Rattle.std.proofs.lemmas.Bool.Decides.{nat_tests}
 use Rattle.std.proofs.lemmas.Fmt.{decimal_nonempty, first_decimal, digits_decimal}
 use Rattle.std.specs.Char.{is_ascii_digit, is_ascii_uppercase}
@@ -120,17 +121,13 @@ none_twice : (b : Bool) (o : Option (List ℕ)) → o ≡ None → cond b o None
 none_twice true o none = none
 none_twice false o none = refl
 
-pub both_true : (a b : Bool) → (a && b) ≡ true → (a ≡ true) × (b ≡ true)
-both_true true b e = (refl, e)
-both_true false b e = cc
-
 -- fewer letters than the word has, and then something else, aren't the word
 no_longer_word : (word front rest : List ℕ) → list_all is_ascii_uppercase word ≡ true → length front < length word → is_ascii_uppercase (slice_index rest 0) ≡ false → rest_after word (front ++ rest) ≡ None
 no_longer_word [] front rest all few stops = absurd (omega arith)
 no_longer_word (w ∷ ws) [] [] all few stops = refl
-no_longer_word (w ∷ ws) [] (c ∷ cs) all few stops = ap (λ b. cond b (rest_after ws cs) None) (apart c w stops (both_true (is_ascii_uppercase w) (list_all is_ascii_uppercase ws) all).0)
+no_longer_word (w ∷ ws) [] (c ∷ cs) all few stops = ap (λ b. cond b (rest_after ws cs) None) (apart c w stops (and_parts (is_ascii_uppercase w) (list_all is_ascii_uppercase ws) all).0)
 no_longer_word (w ∷ ws) (c ∷ cs) rest all few stops =
-    none_twice (c == w) (rest_after ws (cs ++ rest)) (no_longer_word ws cs rest (both_true (is_ascii_uppercase w) (list_all is_ascii_uppercase ws) all).1 (omega arith) stops)
+    none_twice (c == w) (rest_after ws (cs ++ rest)) (no_longer_word ws cs rest (and_parts (is_ascii_uppercase w) (list_all is_ascii_uppercase ws) all).1 (omega arith) stops)
 
 -- what follows the letters of a reference: a `$` or the digits of its row
 after_letters : (b : Bool) (n : ℕ) (rest : List ℕ) → 1 ≤ n → n < 2 ^ 64 → is_ascii_uppercase (slice_index (mark b ++ (decimal n ++ rest)) 0) ≡ false
@@ -145,7 +142,7 @@ no_mark_in_letters n rest some small = by_letters (column_letters n) (letters_be
   where
     by_letters : (letters : List ℕ) → list_all is_ascii_uppercase letters ≡ true → 1 ≤ length letters → slice_index (letters ++ rest) 0 ≢ 36
     by_letters [] all some e = omega arith
-    by_letters (c ∷ cs) all some e = let lower : is_ascii_uppercase c ≡ false = ap is_ascii_uppercase e in let both : true ≡ false = sym (both_true (is_ascii_uppercase c) (list_all is_ascii_uppercase cs) all).0 ∙ lower in cc
+    by_letters (c ∷ cs) all some e = let lower : is_ascii_uppercase c ≡ false = ap is_ascii_uppercase e in let both : true ≡ false = sym (and_parts (is_ascii_uppercase c) (list_all is_ascii_uppercase cs) all).0 ∙ lower in cc
 
 -- a reference without a sheet doesn't begin with the word of a sheet
 no_sheet : (b : Bool) (n : ℕ) (rest : List ℕ) → 1 ≤ n → n ≤ 16384 → is_ascii_uppercase (slice_index rest 0) ≡ false → rest_after (codes "SHEET") (mark b ++ (column_letters n ++ rest)) ≡ None

@@ -123,7 +123,7 @@ column_again n rest some small stops =
     passes some few = grind (arith, nat_tests)
 
 -- a front that passes passes throughout
-all_pass : (p : ℕ → Bool) (text : List ℕ) → list_all p (take_while p text) ≡ true
+pub all_pass : (p : ℕ → Bool) (text : List ℕ) → list_all p (take_while p text) ≡ true
 all_pass p [] = refl
 all_pass p (c ∷ cs) = rw take_while-cons (by_head (p c) refl (all_pass p cs))
   where

@@ -1,5 +1,6 @@
 -- The reference at the front of a text is the one that stands there.
 use Rattle.std.proofs.Common.{◌≡◌, ℕ, zero, suc, ◌-◌, ◌<◌, ◌≤◌, ◌^◌, Bool, true, false, cond, nat_lt, List, [], ◌∷◌, ◌++◌, length, take, drop, slice_index, Option, Some, None, option_map, unwrap_or, codes, decimal, refl, ap, sym, subst, add-zero, ◌==◌, ◌∙◌, arith}
+use Rattle.std.proofs.lemmas.Bool.{and_parts}
 use Rattle.std.proofs.lemmas.Bool.Decides.{nat_tests}
 use Rattle.std.proofs.lemmas.Fmt.{IsAscii-decimal, decimal_nonempty, digits_decimal}
 use Rattle.std.proofs.lemmas.List.{get_or-drop, length-append, length-drop, length-map, map-append, take-append-drop, take-map}
@@ -13,7 +14,7 @@ use Rattle.cell_refs.specs.Cell.{IsCell}
 use Rattle.cell_refs.specs.RefText.{IsReference, cell_at}
 use Rattle.cell_refs.specs.Reading.{reference_in}
 use Rattle.cell_refs.specs.Written.{StandsAt, capitals, cell_text, column_letters, mark, plain_reference, reference_at, reference_text, sheet_part}
-use Rattle.cell_refs.proofs.BothWays.{both_true, reference_again, reference_capitals, reference_takes, sheet_capitals}
+use Rattle.cell_refs.proofs.BothWays.{reference_again, reference_capitals, reference_takes, sheet_capitals}
 use Rattle.cell_refs.proofs.Capitals.{digit_upper, upper_digit}
 use Rattle.cell_refs.proofs.Columns.{letters_begin}
 use Rattle.cell_refs.proofs.Numerals.{numerals}
@@ -21,7 +22,7 @@ use Rattle.cell_refs.proofs.Numerals.{numerals}
 letters_stay : (letters : List ℕ) → list_all is_ascii_uppercase letters ≡ true → capitals letters ≡ letters
 letters_stay [] all = refl
 letters_stay (c ∷ cs) all =
-    let parts = both_true (is_ascii_uppercase c) (list_all is_ascii_uppercase cs) all in
+    let parts = and_parts (is_ascii_uppercase c) (list_all is_ascii_uppercase cs) all in
     rw (upper_stays c parts.0, letters_stay cs parts.1) refl
   where
     upper_stays : (c : ℕ) → is_ascii_uppercase c ≡ true → to_ascii_uppercase c ≡ c
@@ -30,7 +31,7 @@ letters_stay (c ∷ cs) all =
 digits_stay : (digits : List ℕ) → all_ascii_digits digits ≡ true → capitals digits ≡ digits
 digits_stay [] all = refl
 digits_stay (c ∷ cs) all =
-    let parts = both_true (is_ascii_digit c) (all_ascii_digits cs) all in
+    let parts = and_parts (is_ascii_digit c) (all_ascii_digits cs) all in
     rw (upper_digit c parts.0, digits_stay cs parts.1) refl
 
 decimal_stays : (n : ℕ) → n < 2 ^ 64 → capitals (decimal n) ≡ decimal n
@@ -164,8 +165,8 @@ ascii_append (x ∷ xs) ys p q (suc i) = ascii_append xs ys (λ j. p (suc j)) q 
 
 ascii_letters : (letters : List ℕ) → list_all is_ascii_uppercase letters ≡ true → IsAscii letters
 ascii_letters [] all i = omega arith
-ascii_letters (c ∷ cs) all zero = let upper = (both_true (is_ascii_uppercase c) (list_all is_ascii_uppercase cs) all).0 in grind (arith, nat_tests)
-ascii_letters (c ∷ cs) all (suc i) = ascii_letters cs (both_true (is_ascii_uppercase c) (list_all is_ascii_uppercase cs) all).1 i
+ascii_letters (c ∷ cs) all zero = let upper = (and_parts (is_ascii_uppercase c) (list_all is_ascii_uppercase cs) all).0 in grind (arith, nat_tests)
+ascii_letters (c ∷ cs) all (suc i) = ascii_letters cs (and_parts (is_ascii_uppercase c) (list_all is_ascii_uppercase cs) all).1 i
 
 ascii_mark : (b : Bool) → IsAscii (mark b)
 ascii_mark true zero = omega arith
@@ -174,8 +175,8 @@ ascii_mark false i = omega arith
 
 ascii_codes : (bytes : List ℕ) → list_all (λ b. nat_lt b 128) bytes ≡ true → IsAscii bytes
 ascii_codes [] all i = omega arith
-ascii_codes (c ∷ cs) all zero = let low = (both_true (nat_lt c 128) (list_all (λ b. nat_lt b 128) cs) all).0 in grind (arith, nat_tests)
-ascii_codes (c ∷ cs) all (suc i) = ascii_codes cs (both_true (nat_lt c 128) (list_all (λ b. nat_lt b 128) cs) all).1 i
+ascii_codes (c ∷ cs) all zero = let low = (and_parts (nat_lt c 128) (list_all (λ b. nat_lt b 128) cs) all).0 in grind (arith, nat_tests)
+ascii_codes (c ∷ cs) all (suc i) = ascii_codes cs (and_parts (nat_lt c 128) (list_all (λ b. nat_lt b 128) cs) all).1 i
 
 ascii_sheet : (o : Option ℕ) → unwrap_or o 1 ≤ 64 → IsAscii (sheet_part o)
 ascii_sheet None small i = omega arith

@@ -19,7 +19,9 @@ pub record IsCell (cell : Cell) : Type 0 where
 
 -- by sheet, then by row, then by column
 abbrev pub cell_cmp : Cell → Cell → Ordering
-cell_cmp a b = ordering_then (nat_cmp a.sheet b.sheet) (ordering_then (nat_cmp a.row b.row) (nat_cmp a.col b.col))
+cell_cmp a b =
+    ordering_then (nat_cmp a.sheet b.sheet)
+    (ordering_then (nat_cmp a.row b.row) (nat_cmp a.col b.col))
 
 -- that is a total order
 pub cells_total : IsTotalOrder cell_cmp

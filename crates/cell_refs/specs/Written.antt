@@ -17,7 +17,8 @@ last_letter column = if column == 0 then [] else (65 + (column - 1) % 26) ∷ []
 -- the letters of a column, at most three: 1 is A, 26 is Z, 27 is AA
 unfoldable pub column_letters : ℕ → List ℕ
 column_letters column =
-    last_letter (rounds_before (rounds_before column)) ++ (last_letter (rounds_before column) ++ last_letter column)
+    last_letter (rounds_before (rounds_before column))
+    ++ (last_letter (rounds_before column) ++ last_letter column)
 
 -- `$` before a part that is marked as absolute
 abbrev pub mark : Bool → List ℕ

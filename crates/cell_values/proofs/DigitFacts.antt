@@ -1,5 +1,6 @@
 -- When digits stand for a number.
 use Rattle.std.proofs.Common.{◌≡◌, ℕ, ◌<◌, ◌≤◌, ◌-◌, ◌&&◌, Bool, true, false, List, length, get_or, Some, None, refl, arith, ap, ◌∙◌, sym, subst, take, take_all, eqb, leb, ltb, cond}
+use Rattle.std.proofs.lemmas.Bool.{false_from_ne_true, le-leb, lt-leb, lt-ltb}
 use Rattle.std.proofs.lemmas.Str.Parse.{IsNumeralModel, numerals_by_value, tells_all_ascii_digits, not_in_digits}
 use Rattle.std.proofs.lemmas.Bool.Decides.{nat_tests}
 use Rattle.std.specs.Char.{is_ascii_digit, digit_value}
@@ -12,11 +13,6 @@ use Rattle.cell_values.specs.Digits.{whole_number}
 pub own : IsNumeralModel (λ ds. all_ascii_digits ds ≡ true) (digits_value 10)
 own = numerals_by_value (λ ds. all_ascii_digits ds ≡ true) tells_all_ascii_digits
 
--- a test that can't be true is false
-pub false_from_not : (b : Bool) → (b ≡ true → ⊥) → b ≡ false
-false_from_not true h = absurd (h refl)
-false_from_not false h = refl
-
 -- both of two tests are true
 pub both_true : (a b : Bool) → (a && b) ≡ true → (a ≡ true) × (b ≡ true)
 both_true true b e = (refl, e)
@@ -25,7 +21,7 @@ both_true false b e = absurd (cc)
 -- a byte that is no digit
 pub not_all_digits : (ds : List ℕ) (i : ℕ) → i < length ds → (IsInRange 48 57 (get_or ds i 0) → ⊥) → all_ascii_digits ds ≡ false
 not_all_digits ds i lt outside =
-    false_from_not (all_ascii_digits ds) (λ all. not_in_digits own ds (get_or ds i 0) all outside i lt refl)
+    false_from_ne_true (all_ascii_digits ds) (λ all. not_in_digits own ds (get_or ds i 0) all outside i lt refl)
 
 chosen : {A : Type 0} (b : Bool) (x y : A) → b ≡ true → cond b x y ≡ x
 chosen b x y e = ap (λ t. cond t x y) e
@@ -41,24 +37,15 @@ three false b d e = refl
 pub all_three : (a b d : Bool) → a ≡ true → b ≡ true → d ≡ true → (a && (b && d)) ≡ true
 all_three a b d e f g = grind arith
 
-pub leb_false : (m n : ℕ) → n < m → leb m n ≡ false
-leb_false m n h = grind (arith, nat_tests)
-
-pub leb_true : (m n : ℕ) → m ≤ n → leb m n ≡ true
-leb_true m n h = grind (arith, nat_tests)
-
-ltb_true : (m n : ℕ) → m < n → ltb m n ≡ true
-ltb_true m n h = grind (arith, nat_tests)
-
 pub whole_of_no_digit : (ds : List ℕ) (i : ℕ) → i < length ds → (IsInRange 48 57 (get_or ds i 0) → ⊥) → whole_number ds ≡ None
 whole_of_no_digit ds i lt outside =
     refused _ _ _ (ap (λ b. b && (ltb 0 (length ds) && leb (digits_value 10 ds) 999999999999999)) (not_all_digits ds i lt outside))
 
 pub whole_too_large : (ds : List ℕ) → 999999999999999 < digits_value 10 ds → whole_number ds ≡ None
-whole_too_large ds big = refused _ _ _ (three (all_ascii_digits ds) (ltb 0 (length ds)) _ (leb_false _ _ big))
+whole_too_large ds big = refused _ _ _ (three (all_ascii_digits ds) (ltb 0 (length ds)) _ (lt-leb _ _ big))
 
 pub whole_is : (ds : List ℕ) → 0 < length ds → all_ascii_digits ds ≡ true → digits_value 10 ds ≤ 999999999999999 → whole_number ds ≡ Some (digits_value 10 ds)
-whole_is ds some all small = chosen _ _ _ (all_three _ _ _ all (ltb_true _ _ some) (leb_true _ _ small))
+whole_is ds some all small = chosen _ _ _ (all_three _ _ _ all (lt-ltb _ _ some) (le-leb _ _ small))
 
 -- the number of the front of digits, where the front is all of them
 pub whole_of_front : (ds : List ℕ) (i n : ℕ) → 0 < length ds → length ds ≤ i → n ≡ digits_value 10 (take i ds) → AllDigits 10 (take i ds) → n ≤ 999999999999999 → whole_number ds ≡ Some n

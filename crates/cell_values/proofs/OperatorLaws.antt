@@ -1,5 +1,7 @@
 -- Laws of the operators.
 use Rattle.std.proofs.Common.{◌≡◌, ℕ, zero, suc, ◌≤◌, ◌<◌, ◌*◌, ◌/◌, ◌%◌, ◌&&◌, Bool, true, false, cond, List, ◌++◌, length, Ok, Some, None, unsigned_abs, nat_abs, int_le, int_div, int_rem, ◌+ℤ◌, ◌*ℤ◌, ◌⊎◌, inl, inr, refl, sym, ap, ◌∙◌, arith, ℤ, pos, negsuc, neg_ℤ, append_assoc}
+use Rattle.std.proofs.Math.IntN.{neg_ℤ-neg_ℤ}
+use Rattle.std.proofs.lemmas.Bool.{false_from_ne_true, le-leb}
 use Rattle.std.specs.Str.{chars}
 use Rattle.std.specs.Option.{option_map_or}
 use Rattle.cell_values.specs.declared.errors.ErrorKind.TheVariants as errors
@@ -13,16 +15,10 @@ use Rattle.std.proofs.lemmas.Map.Views.{tells_apart}
 use Rattle.cell_values.specs.declared.errors.ErrorKind.{ErrorKind}
 use Rattle.cell_values.specs.Value.{MAGNITUDE, within_magnitude, negate_of, quotient}
 use Rattle.cell_values.specs.Coercion.{text_of, join_of, text_join_of, on_texts}
-use Rattle.cell_values.proofs.DigitFacts.{leb_true, false_from_not}
 
 within_is : (n : ℤ) → unsigned_abs n ≤ 999999999999999 → within_magnitude n ≡ values.Num n
-within_is (pos n) small = ap (λ b. cond b (values.Num (pos n)) (values.Error errors.Num)) (leb_true n 999999999999999 small)
-within_is (negsuc n) small = ap (λ b. cond (b && true) (values.Num (negsuc n)) (values.Error errors.Num)) (leb_true n 999999999999998 (omega arith))
-
-neg_neg : (n : ℤ) → neg_ℤ (neg_ℤ n) ≡ n
-neg_neg (pos zero) = refl
-neg_neg (pos (suc n)) = refl
-neg_neg (negsuc n) = refl
+within_is (pos n) small = ap (λ b. cond b (values.Num (pos n)) (values.Error errors.Num)) (le-leb n 999999999999999 small)
+within_is (negsuc n) small = ap (λ b. cond (b && true) (values.Num (negsuc n)) (values.Error errors.Num)) (le-leb n 999999999999998 (omega arith))
 
 abs_neg : (n : ℤ) → unsigned_abs (neg_ℤ n) ≡ unsigned_abs n
 abs_neg (pos zero) = refl
@@ -33,12 +29,12 @@ abs_neg (negsuc n) = refl
 pub negate_of-negate_of : (n : ℤ) → unsigned_abs n ≤ 999999999999999 → negate_of (negate_of (values.Num n)) ≡ values.Num n
 negate_of-negate_of n small =
     let same = abs_neg n in
-    ap negate_of (within_is (neg_ℤ n) (omega (arith, same))) ∙ ap within_magnitude (neg_neg n) ∙ within_is n small
+    ap negate_of (within_is (neg_ℤ n) (omega (arith, same))) ∙ ap within_magnitude (neg_ℤ-neg_ℤ n) ∙ within_is n small
 
 joined_is : (a b : Value) (s t : List ℕ) → text_of a ≡ Ok s → text_of b ≡ Ok t → length (chars (s ++ t)) ≤ 32767 → join_of a b ≡ values.Text (s ++ t)
 joined_is a b s t e f short =
     ap (λ r. on_texts text_join_of r (text_of b)) e ∙ ap (on_texts text_join_of (Ok s)) f
-    ∙ ap (λ o. option_map_or values.Text o (values.Error errors.Value)) (ap (λ b. cond b (Some (s ++ t)) None) (leb_true _ _ short))
+    ∙ ap (λ o. option_map_or values.Text o (values.Error errors.Value)) (ap (λ b. cond b (Some (s ++ t)) None) (le-leb _ _ short))
 
 -- where no operand is an error and nothing is too long, it doesn't matter which two are joined first
 pub joined_assoc : (a b c : Value) (s t u : List ℕ) → text_of a ≡ Ok s → text_of b ≡ Ok t → text_of c ≡ Ok u
@@ -118,7 +114,7 @@ rem-product (negsuc a) (negsuc b) = ap pos (mul-mod_left (suc a) (suc b))
 -- a product within the magnitude has its factor as quotient
 pub quotient-product : (q n : ℤ) → (n ≡ pos 0 → ⊥) → unsigned_abs q ≤ 999999999999999 → quotient (q *ℤ n) n ≡ values.Num q
 quotient-product q n other small =
-    let some : int_eq n (pos 0) ≡ false = false_from_not (int_eq n (pos 0)) (λ h. other (zero_from_test n h)) in
+    let some : int_eq n (pos 0) ≡ false = false_from_ne_true (int_eq n (pos 0)) (λ h. other (zero_from_test n h)) in
     let nothing : int_eq (int_rem (q *ℤ n) n) (pos 0) ≡ true = ap (λ k. int_eq k (pos 0)) (rem-product q n) in
     let answer = within_magnitude (int_div (q *ℤ n) n) in
     ap (λ b. cond b (values.Error errors.Div0) (cond (int_eq (int_rem (q *ℤ n) n) (pos 0)) answer (values.Error errors.Num))) some

@@ -1,5 +1,6 @@
 -- What is read as a value is the word of that value, so each value is written in one way.
 use Rattle.std.proofs.Common.{◌≡◌, ℕ, zero, suc, ◌≤◌, ◌<◌, ◌&&◌, ◌⊎◌, inl, inr, Bool, true, false, cond, eqb, ltb, leb, List, [], ◌∷◌, ◌++◌, length, get_or, Option, Some, None, refl, sym, ap, ◌∙◌, subst, arith, lit<, ℤ, pos, unsigned_abs}
+use Rattle.std.proofs.lemmas.Bool.{and_parts, eqb-true, leb-true, ltb-true}
 use Rattle.std.proofs.lemmas.Bool.Decides.{nat_tests}
 use Rattle.std.proofs.lemmas.Fmt.{decimal-digits_value, decimal_digit}
 use Rattle.std.proofs.lemmas.Option.{cond_some, option_and_then_some}
@@ -18,8 +19,7 @@ use Rattle.cell_values.specs.Digits.{whole_number, is_whole, below_zero}
 use Rattle.cell_values.specs.Error.{error_word}
 use Rattle.cell_values.specs.Text.{is_text}
 use Rattle.cell_values.specs.Word.{HasWord, with_doubled_quotes, byte_within, quotation_of, value_text, begins_with_zero, number_word, bool_word, kind_of_word, before_closing_quote, text_word, text_of_bytes, value_of_word}
-use Rattle.cell_values.proofs.DigitFacts.{own, both_true}
-use Rattle.cell_values.proofs.WordLaws.{equal_from_eqb, lt_from_ltb}
+use Rattle.cell_values.proofs.DigitFacts.{own}
 
 -- which way a choice went
 choice : {A : Type 0} (b : Bool) (x y z : A) → cond b x y ≡ z → ((b ≡ true) × (x ≡ z)) ⊎ ((b ≡ false) × (y ≡ z))
@@ -51,9 +51,6 @@ found_passes p (y ∷ ys) x e =
       | inr h ↦ found_passes p ys x h.1
     ]
 
-le_from_leb : (m n : ℕ) → leb m n ≡ true → m ≤ n
-le_from_leb m n e = grind (arith, nat_tests)
-
 -- digits that stand for a number
 record Stands (ds : List ℕ) (n : ℕ) : Type 0 where
   digits : all_ascii_digits ds ≡ true
@@ -64,9 +61,9 @@ record Stands (ds : List ℕ) (n : ℕ) : Type 0 where
 stands : (ds : List ℕ) (n : ℕ) → whole_number ds ≡ Some n → Stands ds n
 stands ds n e =
     let p = cond_some (is_whole ds) (digits_value 10 ds) n e in
-    let q = both_true (all_ascii_digits ds) (ltb 0 (length ds) && leb (digits_value 10 ds) 999999999999999) p.0 in
-    let r = both_true (ltb 0 (length ds)) (leb (digits_value 10 ds) 999999999999999) q.1 in
-    record { digits = q.0; some = lt_from_ltb 0 (length ds) r.0; value = p.1; small = subst (λ m. m ≤ 999999999999999) p.1 (le_from_leb _ _ r.1) }
+    let q = and_parts (all_ascii_digits ds) (ltb 0 (length ds) && leb (digits_value 10 ds) 999999999999999) p.0 in
+    let r = and_parts (ltb 0 (length ds)) (leb (digits_value 10 ds) 999999999999999) q.1 in
+    record { digits = q.0; some = ltb-true 0 (length ds) r.0; value = p.1; small = subst (λ m. m ≤ 999999999999999) p.1 (leb-true _ _ r.1) }
 
 -- digits without leading zeros are the decimals of their number
 decimal_again : (ds : List ℕ) (n : ℕ) → Stands ds n → (get_or ds 0 0 ≡ 48 → length ds ≡ 1) → decimal n ≡ ds
@@ -85,12 +82,12 @@ undoubled_is : (w t : List ℕ) → before_closing_quote w ≡ Some t → w ≡ 
 undoubled_is [] t e = absurd (cc)
 undoubled_is (c ∷ []) t e =
     let p = cond_some (eqb c 34) [] t e in
-    ap (λ k. k ∷ []) (equal_from_eqb c 34 p.0) ∙ ap (λ u. with_doubled_quotes u ++ 34 ∷ []) p.1
+    ap (λ k. k ∷ []) (eqb-true c 34 p.0) ∙ ap (λ u. with_doubled_quotes u ++ 34 ∷ []) p.1
 undoubled_is (c ∷ d ∷ cs) t e =
     elim (choice (eqb c 34) (cond (eqb d 34) (option_map (λ u. 34 ∷ u) (before_closing_quote cs)) None) (option_map (λ u. c ∷ u) (before_closing_quote (d ∷ cs))) (Some t) e) [
       | inl h ↦ elim (choice (eqb d 34) (option_map (λ u. 34 ∷ u) (before_closing_quote cs)) None (Some t) h.1) [
         | inl k ↦ (let m = mapped (λ u. 34 ∷ u) (before_closing_quote cs) t k.1 in
-            two_quotes c d cs m.0 t (equal_from_eqb c 34 h.0) (equal_from_eqb d 34 k.0) (undoubled_is cs m.0 m.1) m.2)
+            two_quotes c d cs m.0 t (eqb-true c 34 h.0) (eqb-true d 34 k.0) (undoubled_is cs m.0 m.1) m.2)
         | inr k ↦ absurd (none_is_no_some t k.1)
       ]
       | inr h ↦ (let m = mapped (λ u. c ∷ u) (before_closing_quote (d ∷ cs)) t h.1 in
@@ -103,7 +100,7 @@ quoted_again (c ∷ cs) t e =
     elim (choice (eqb c 34) (option_and_then text_of_bytes (before_closing_quote cs)) None (Some t) e) [
       | inl h ↦ option_and_then_some {P = (c ∷ cs ≡ quotation_of t) × (is_text t ≡ true)} text_of_bytes (before_closing_quote cs) t h.1
           (λ x read valid. let p = cond_some (is_text x) x t valid in
-          (ap (λ k. k ∷ cs) (equal_from_eqb c 34 h.0) ∙ ap (λ k. 34 ∷ k) (undoubled_is cs x read) ∙ ap quotation_of p.1, subst (λ k. is_text k ≡ true) p.1 p.0))
+          (ap (λ k. k ∷ cs) (eqb-true c 34 h.0) ∙ ap (λ k. 34 ∷ k) (undoubled_is cs x read) ∙ ap quotation_of p.1, subst (λ k. is_text k ≡ true) p.1 p.0))
       | inr h ↦ absurd (none_is_no_some t h.1)
     ]
 
@@ -131,7 +128,7 @@ number_again (c ∷ ds) z e =
         | inr k ↦ (let m = mapped below_zero (whole_number ds) z k.1 in
             let s = stands ds m.0 m.1 in
             let p = negative_again m.0 ds z (decimal_again ds m.0 s (no_zero_first (get_or ds 0 0) _ k.0)) k.0 m.2 s.small in
-            (ap (λ k. k ∷ ds) (equal_from_eqb c 45 h.0) ∙ p.0, p.1))
+            (ap (λ k. k ∷ ds) (eqb-true c 45 h.0) ∙ p.0, p.1))
       ]
       | inr h ↦ elim (choice (eqb c 48 && ltb 0 (length ds)) None above (Some z) h.1) [
         | inl k ↦ absurd (none_is_no_some z k.1)

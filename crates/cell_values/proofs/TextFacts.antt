@@ -1,5 +1,6 @@
 -- When bytes are a text.
 use Rattle.std.proofs.Common.{◌≡◌, ℕ, suc, ◌+◌, ◌^◌, ◌≤◌, ◌<◌, ◌&&◌, ◌||◌, Bool, true, false, not, cond, leb, List, [], ◌∷◌, ◌++◌, length, Option, Some, None, refl, sym, ap, ◌∙◌, arith, subst, ℤ, pos, negsuc}
+use Rattle.std.proofs.lemmas.Bool.{and_parts, false_from_ne_true, le-leb, leb-true, lt-leb, not-true}
 use Rattle.std.proofs.lemmas.Bool.Decides.{nat_tests}
 use Rattle.std.proofs.lemmas.Fmt.{IsAscii-signed, length_signed_le, digits_decimal}
 use Rattle.std.proofs.lemmas.Iterator.Adapters.{position_from-zero}
@@ -13,15 +14,15 @@ use Rattle.std.specs.Str.{IsUtf8, is_utf8, chars, all_ascii_digits}
 use lib.Signed.{mag}
 use lib.Chars.{codes}
 use Rattle.cell_values.specs.declared.texts.TextFault.{TextFault}
-use Rattle.cell_values.specs.declared.texts.TextFault.TheVariants.{Control}
+use Rattle.cell_values.specs.declared.texts.TextFault.TheVariants.{TooLong, Control}
 use Rattle.cell_values.specs.TextFault.{IsFaultOf}
 use Rattle.cell_values.specs.Text.{is_text}
 use Rattle.cell_values.specs.Word.{text_of_bytes}
-use Rattle.cell_values.proofs.DigitFacts.{all_three, leb_true, false_from_not, both_true, own}
+use Rattle.cell_values.proofs.DigitFacts.{all_three, own}
 
 -- UTF-8 of few enough characters, none of them a control character
 pub text_from_parts : (s : List ℕ) → IsUtf8 s → length (chars s) ≤ 32767 → list_any is_ascii_control s ≡ false → is_text s ≡ true
-text_from_parts s utf8 few none = all_three _ _ _ (is_utf8-from_IsUtf8 s utf8) (leb_true _ _ few) (ap not none)
+text_from_parts s utf8 few none = all_three _ _ _ (is_utf8-from_IsUtf8 s utf8) (le-leb _ _ few) (ap not none)
 
 -- the parts of a text
 pub record TextParts (s : List ℕ) : Type 0 where
@@ -29,18 +30,11 @@ pub record TextParts (s : List ℕ) : Type 0 where
   pub few : length (chars s) ≤ 32767
   pub none : list_any is_ascii_control s ≡ false
 
-not_true : (b : Bool) → not b ≡ true → b ≡ false
-not_true true e = absurd (cc)
-not_true false e = refl
-
-le_from_leb : (m n : ℕ) → leb m n ≡ true → m ≤ n
-le_from_leb m n e = grind (arith, nat_tests)
-
 pub parts_of_text : (s : List ℕ) → is_text s ≡ true → TextParts s
 parts_of_text s e =
-    let p = both_true (is_utf8 s) (leb (length (chars s)) 32767 && not (list_any is_ascii_control s)) e in
-    let q = both_true (leb (length (chars s)) 32767) (not (list_any is_ascii_control s)) p.1 in
-    record { utf8 = IsUtf8-from_is_utf8 s p.0; few = le_from_leb _ _ q.0; none = not_true _ q.1 }
+    let p = and_parts (is_utf8 s) (leb (length (chars s)) 32767 && not (list_any is_ascii_control s)) e in
+    let q = and_parts (leb (length (chars s)) 32767) (not (list_any is_ascii_control s)) p.1 in
+    record { utf8 = IsUtf8-from_is_utf8 s p.0; few = leb-true _ _ q.0; none = not-true _ q.1 }
 
 none_step : (b : Bool) (i : ℕ) (o : Option ℕ) (r : Bool) → cond b (Some i) o ≡ None → (o ≡ None → r ≡ false) → (b || r) ≡ false
 none_step true i o r e h = absurd (cc)
@@ -60,7 +54,7 @@ text_is s utf8 few none = text_from_parts s utf8 few (none_passes is_ascii_contr
 -- bytes that aren't UTF-8 are none
 pub no_text_of_bytes : (s : List ℕ) → (IsUtf8 s → ⊥) → text_of_bytes s ≡ None
 no_text_of_bytes s bad =
-    let wrong : is_utf8 s ≡ false = false_from_not (is_utf8 s) (λ h. bad (IsUtf8-from_is_utf8 s h)) in
+    let wrong : is_utf8 s ≡ false = false_from_ne_true (is_utf8 s) (λ h. bad (IsUtf8-from_is_utf8 s h)) in
     ap (λ b. cond (b && (leb (length (chars s)) 32767 && not (list_any is_ascii_control s))) (Some s) None) wrong
 
 -- two texts one after another
@@ -119,6 +113,16 @@ last_fails false b d e = refl
 
 no_text : (s : List ℕ) → is_text s ≡ false → text_of_bytes s ≡ None
 no_text s e = ap (λ b. cond b (Some s) None) e
+
+middle_fails : (a b d : Bool) → b ≡ false → (a && (b && d)) ≡ false
+middle_fails true b d e = ap (λ t. t && d) e
+middle_fails false b d e = refl
+
+-- too many characters are no text
+pub no_text_from_length : (s : List ℕ) (fault : TextFault) → fault ≡ TooLong → IsFaultOf fault s → text_of_bytes s ≡ None
+no_text_from_length s fault is h =
+    let long : 32767 < length (chars s) = subst (λ f. IsFaultOf f s) is h in
+    no_text s (middle_fails (is_utf8 s) (leb (length (chars s)) 32767) (not (list_any is_ascii_control s)) (lt-leb _ _ long))
 
 -- what holds a control character is no text
 pub no_text_from_control : (s bytes : List ℕ) (fault : TextFault) (p : ℕ) → s ≡ bytes → fault ≡ Control p → IsFaultOf fault s → text_of_bytes bytes ≡ None

@@ -1,5 +1,6 @@
 -- What is written is read again.
 use Rattle.std.proofs.Common.{◌≡◌, ℕ, zero, suc, ◌^◌, ◌≤◌, ◌<◌, ◌&&◌, Bool, true, false, cond, eqb, ltb, List, [], ◌∷◌, ◌++◌, length, get_or, Some, None, refl, sym, ap, ◌∙◌, arith, lit<, ℤ, pos, negsuc, unsigned_abs, append_assoc}
+use Rattle.std.proofs.lemmas.Bool.{and_parts, eqb-true, false_from_ne_true, ltb-true}
 use Rattle.std.proofs.lemmas.Bool.Decides.{nat_tests}
 use Rattle.std.proofs.lemmas.Fmt.{digits_decimal, digits_value-decimal, decimal_nonempty, first_decimal, decimal_digit}
 use Rattle.std.proofs.lemmas.Str.Parse.{tells_all_ascii_digits}
@@ -13,20 +14,14 @@ use Rattle.cell_values.specs.declared.values.Value.TheVariants as values
 use Rattle.cell_values.specs.Digits.{whole_number, below_zero}
 use Rattle.cell_values.specs.Text.{is_text}
 use Rattle.cell_values.specs.Word.{HasWord, with_doubled_quotes, byte_within, quotation_of, value_text, begins_with_zero, number_word, bool_word, kind_of_word, before_closing_quote, text_word, text_of_bytes, value_of_word}
-use Rattle.cell_values.proofs.DigitFacts.{own, whole_is, false_from_not, both_true}
+use Rattle.cell_values.proofs.DigitFacts.{own, whole_is}
 
 undoubled_other : (c : ℕ) (xs : List ℕ) → eqb c 34 ≡ false → before_closing_quote (c ∷ xs) ≡ option_map (λ t. c ∷ t) (before_closing_quote xs)
 undoubled_other c [] e = ap (λ b. cond b (Some []) None) e
 undoubled_other c (d ∷ xs) e = ap (λ b. cond b (cond (eqb d 34) (option_map (λ t. 34 ∷ t) (before_closing_quote xs)) None) (option_map (λ t. c ∷ t) (before_closing_quote (d ∷ xs)))) e
 
-pub equal_from_eqb : (c d : ℕ) → eqb c d ≡ true → c ≡ d
-equal_from_eqb c d e = grind (arith, nat_tests)
-
-pub lt_from_ltb : (m n : ℕ) → ltb m n ≡ true → m < n
-lt_from_ltb m n e = grind (arith, nat_tests)
-
 undoubled_step : (c : ℕ) (b : Bool) (xs : List ℕ) → eqb c 34 ≡ b → before_closing_quote (cond b (34 ∷ 34 ∷ []) (c ∷ []) ++ xs) ≡ option_map (λ t. c ∷ t) (before_closing_quote xs)
-undoubled_step c true xs e = ap (λ d. option_map (λ t. d ∷ t) (before_closing_quote xs)) (sym (equal_from_eqb c 34 e))
+undoubled_step c true xs e = ap (λ d. option_map (λ t. d ∷ t) (before_closing_quote xs)) (sym (eqb-true c 34 e))
 undoubled_step c false xs e = undoubled_other c xs e
 
 -- the quotes of a text are made two and one again
@@ -45,16 +40,16 @@ no_minus c low = grind (arith, nat_tests)
 
 lead_test : (c n : ℕ) → (c ≡ 48 → suc n ≡ 1) → (eqb c 48 && ltb 0 n) ≡ false
 lead_test c n lead =
-    false_from_not (eqb c 48 && ltb 0 n)
-    (λ h. let p = both_true (eqb c 48) (ltb 0 n) h in
-    let one = lead (equal_from_eqb c 48 p.0) in
-    let more = lt_from_ltb 0 n p.1 in
+    false_from_ne_true (eqb c 48 && ltb 0 n)
+    (λ h. let p = and_parts (eqb c 48) (ltb 0 n) h in
+    let one = lead (eqb-true c 48 p.0) in
+    let more = ltb-true 0 n p.1 in
     omega arith)
 
 -- digits without a leading zero are a number word
-number_of_digits : (ds : List ℕ) → 0 < length ds → all_ascii_digits ds ≡ true → (get_or ds 0 0 ≡ 48 → length ds ≡ 1) → digits_value 10 ds ≤ 999999999999999 → number_word ds ≡ Some (pos (digits_value 10 ds))
-number_of_digits [] some all lead small = absurd (omega arith)
-number_of_digits (c ∷ cs) some all lead small =
+number_word-digits : (ds : List ℕ) → 0 < length ds → all_ascii_digits ds ≡ true → (get_or ds 0 0 ≡ 48 → length ds ≡ 1) → digits_value 10 ds ≤ 999999999999999 → number_word ds ≡ Some (pos (digits_value 10 ds))
+number_word-digits [] some all lead small = absurd (omega arith)
+number_word-digits (c ∷ cs) some all lead small =
     let digit = (tells_all_ascii_digits.parts c cs all).0 in
     let whole = option_map (λ n. pos n) (whole_number (c ∷ cs)) in
     let below = cond (begins_with_zero cs) None (option_map below_zero (whole_number cs)) in
@@ -74,7 +69,7 @@ number_word-decimal : (z : ℤ) → unsigned_abs z ≤ 999999999999999 → numbe
 number_word-decimal (pos n) small =
     let fits : n < 2 ^ 64 = omega arith in
     let value : digits_value 10 (decimal n) ≡ n = digits_value-decimal own n fits in
-    number_of_digits (decimal n) (decimal_nonempty n fits) (digits_decimal own n fits) (decimal_lead n fits) (omega arith) ∙ ap (λ m. Some (pos m)) value
+    number_word-digits (decimal n) (decimal_nonempty n fits) (digits_decimal own n fits) (decimal_lead n fits) (omega arith) ∙ ap (λ m. Some (pos m)) value
 number_word-decimal (negsuc n) small =
     let fits : suc n < 2 ^ 64 = omega arith in
     let ds = decimal (suc n) in

@@ -17,7 +17,9 @@ lower_case_of t = map to_ascii_lowercase t
 
 -- the boolean whose word a text is, in any case
 abbrev pub truth_of_text : List ℕ → Result Bool ErrorKind
-truth_of_text t = if bytes_eq (lower_case_of t) (codes "true") then Ok true else (if bytes_eq (lower_case_of t) (codes "false") then Ok false else Err errors.Value)
+truth_of_text t =
+    if bytes_eq (lower_case_of t) (codes "true") then Ok true
+    else (if bytes_eq (lower_case_of t) (codes "false") then Ok false else Err errors.Value)
 
 -- the boolean that a value counts as, or the error
 abbrev pub truth_of : Value → Result Bool ErrorKind
@@ -40,7 +42,8 @@ abbrev pub text_join_of : List ℕ → List ℕ → Value
 text_join_of s t = option_map_or values.Text (if_short (s ++ t)) (values.Error errors.Value)
 
 -- what an operation on texts makes of two values: the first error is the answer
-abbrev pub on_texts : (List ℕ → List ℕ → Value) → Result (List ℕ) ErrorKind → Result (List ℕ) ErrorKind → Value
+abbrev pub on_texts :
+    (List ℕ → List ℕ → Value) → Result (List ℕ) ErrorKind → Result (List ℕ) ErrorKind → Value
 on_texts f (Err e) t = values.Error e
 on_texts f (Ok s) (Err e) = values.Error e
 on_texts f (Ok s) (Ok t) = f s t

@@ -30,15 +30,15 @@ value_cmp a b = nat_cmp (rank a) (rank b)
 
 -- what a value counts as beside another: a Blank is the empty text beside a text, FALSE beside a
 -- boolean, and else 0
-abbrev pub beside : Value → Value → Value
-beside (values.Text t) values.Blank = values.Text []
-beside (values.Bool b) values.Blank = values.Bool false
-beside other values.Blank = values.Num (pos 0)
-beside other v = v
+abbrev pub value_beside : Value → Value → Value
+value_beside (values.Text t) values.Blank = values.Text []
+value_beside (values.Bool b) values.Blank = values.Bool false
+value_beside other values.Blank = values.Num (pos 0)
+value_beside other v = v
 
 -- the order of two values that are no errors
 abbrev pub order_of : Value → Value → Ordering
-order_of a b = value_cmp (beside b a) (beside a b)
+order_of a b = value_cmp (value_beside b a) (value_beside a b)
 
 -- whether a comparison holds of values in this order
 abbrev pub holds : CompareOp → Ordering → Bool

@@ -5,14 +5,12 @@ use Rattle.std.specs.List.{list_all}
 use Rattle.std.specs.Option.{option_map}
 use Rattle.std.specs.Str.{all_ascii_digits}
 use Rattle.std.specs.Str.Parse.{digits_value}
+use Rattle.cell_values.specs.declared.limits.TheConstants.{LARGEST_NUMBER}
 
--- the greatest magnitude of a number
-abbrev pub GREATEST : ℕ
-GREATEST = 999999999999999
-
--- one or more decimal digits, whose value is at most 999,999,999,999,999
+-- one or more decimal digits, whose value is within the magnitude
 abbrev pub is_whole : List ℕ → Bool
-is_whole ds = all_ascii_digits ds && (nat_lt 0 (length ds) && nat_le (digits_value 10 ds) GREATEST)
+is_whole ds =
+    all_ascii_digits ds && (nat_lt 0 (length ds) && nat_le (digits_value 10 ds) LARGEST_NUMBER)
 
 -- the number that such digits stand for
 abbrev pub whole_number : List ℕ → Option ℕ
@@ -36,12 +34,14 @@ has_number_form (c ∷ cs) = if c == 45 then are_digits cs else are_digits (c �
 abbrev pub number_of_digits : List ℕ → Option ℤ
 number_of_digits [] = None
 number_of_digits (c ∷ cs) =
-    if c == 45 then option_map below_zero (whole_number cs) else option_map pos (whole_number (c ∷ cs))
+    if c == 45 then option_map below_zero (whole_number cs)
+    else option_map pos (whole_number (c ∷ cs))
 
 -- the same of bytes that a `+` may stand before in place of the `-`
 abbrev pub signed_number : List ℕ → Option ℤ
 signed_number [] = None
-signed_number (c ∷ cs) = if c == 43 then option_map pos (whole_number cs) else number_of_digits (c ∷ cs)
+signed_number (c ∷ cs) =
+    if c == 43 then option_map pos (whole_number cs) else number_of_digits (c ∷ cs)
 
 -- what follows the spaces at the start
 abbrev pub after_spaces : List ℕ → List ℕ

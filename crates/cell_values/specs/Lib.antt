@@ -1,4 +1,5 @@
 -- What the contracts of this crate cite.
+-- What the product means.
 pub mod Coercion
 pub mod Comparison
 pub mod Digits

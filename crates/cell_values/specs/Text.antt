@@ -3,15 +3,13 @@ use Rattle.std.specs.Prelude.{ℕ, Bool, ◌&&◌, not, nat_le, if◌then◌else
 use Rattle.std.specs.List.{list_any}
 use Rattle.std.specs.Char.{is_ascii_control}
 use Rattle.std.specs.Str.{is_utf8, chars}
-
--- the greatest number of characters of a text
-abbrev pub MOST_CHARACTERS : ℕ
-MOST_CHARACTERS = 32767
+use Rattle.cell_values.specs.declared.limits.TheConstants.{LONGEST_TEXT}
 
 -- the bytes of a text: UTF-8, at most 32,767 characters, no character below U+0020 and no U+007F
 abbrev pub is_text : List ℕ → Bool
-is_text t = is_utf8 t && (nat_le (length (chars t)) MOST_CHARACTERS && not (list_any is_ascii_control t))
+is_text t =
+    is_utf8 t && (nat_le (length (chars t)) LONGEST_TEXT && not (list_any is_ascii_control t))
 
 -- bytes of at most 32,767 characters
 abbrev pub if_short : List ℕ → Option (List ℕ)
-if_short t = if nat_le (length (chars t)) MOST_CHARACTERS then Some t else None
+if_short t = if nat_le (length (chars t)) LONGEST_TEXT then Some t else None

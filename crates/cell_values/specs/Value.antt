@@ -1,9 +1,10 @@
 -- Values, and what the operators make of them.
-use Rattle.std.specs.Prelude.{ℤ, pos, neg_ℤ, ◌+ℤ◌, ◌-ℤ◌, ◌*ℤ◌, int_le, int_div, int_rem, ◌&&◌, if◌then◌else◌, Result, Ok, Err}
+use Rattle.std.specs.Prelude.{ℤ, pos, neg_ℤ, ◌+ℤ◌, ◌-ℤ◌, ◌*ℤ◌, int_le, int_div, int_rem, Bool, ◌&&◌, if◌then◌else◌, Result, Ok, Err}
 use Rattle.std.specs.Option.{ok_or}
 use Rattle.std.specs.Ordering.{int_eq}
 use Rattle.cell_values.specs.declared.errors.ErrorKind.{ErrorKind}
 use Rattle.cell_values.specs.declared.errors.ErrorKind.TheVariants as errors
+use Rattle.cell_values.specs.declared.limits.TheConstants.{LARGEST_NUMBER}
 use Rattle.cell_values.specs.declared.values.Value.{Value}
 use Rattle.cell_values.specs.declared.values.Value.TheVariants as values
 use Rattle.cell_values.specs.Digits.{signed_number, without_outer_spaces}
@@ -18,11 +19,15 @@ number_of values.Blank = Ok (pos 0)
 
 -- the greatest magnitude of a number
 abbrev pub MAGNITUDE : ℤ
-MAGNITUDE = pos 999999999999999
+MAGNITUDE = pos LARGEST_NUMBER
+
+-- whether a number is within the magnitude
+abbrev pub is_in_magnitude : ℤ → Bool
+is_in_magnitude n = int_le (neg_ℤ MAGNITUDE) n && int_le n MAGNITUDE
 
 -- a number where it is within the magnitude, else `#NUM!`
 abbrev pub within_magnitude : ℤ → Value
-within_magnitude n = if int_le (neg_ℤ MAGNITUDE) n && int_le n MAGNITUDE then values.Num n else values.Error errors.Num
+within_magnitude n = if is_in_magnitude n then values.Num n else values.Error errors.Num
 
 -- what an operation on numbers makes of two values: the first error is the answer
 abbrev pub on_numbers : (ℤ → ℤ → Value) → Result ℤ ErrorKind → Result ℤ ErrorKind → Value
@@ -46,7 +51,8 @@ mul_of a b = on_numbers (λ m n. within_magnitude (m *ℤ n)) (number_of a) (num
 abbrev pub quotient : ℤ → ℤ → Value
 quotient m n =
     if int_eq n (pos 0) then values.Error errors.Div0
-    else (if int_eq (int_rem m n) (pos 0) then within_magnitude (int_div m n) else values.Error errors.Num)
+    else (if int_eq (int_rem m n) (pos 0) then within_magnitude (int_div m n)
+    else values.Error errors.Num)
 
 -- the quotient of two values
 abbrev pub div_of : Value → Value → Value

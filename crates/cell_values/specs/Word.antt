@@ -6,9 +6,10 @@ use Rattle.std.specs.Fmt.{signed_decimal}
 use Rattle.std.specs.Str.{bytes_eq}
 use Rattle.cell_values.specs.declared.errors.ErrorKind.{ErrorKind}
 use Rattle.cell_values.specs.declared.errors.ErrorKind.TheVariants as errors
+use Rattle.cell_values.specs.declared.limits.TheConstants.{LARGEST_NUMBER}
 use Rattle.cell_values.specs.declared.values.Value.{Value}
 use Rattle.cell_values.specs.declared.values.Value.TheVariants as values
-use Rattle.cell_values.specs.Digits.{GREATEST, whole_number, below_zero}
+use Rattle.cell_values.specs.Digits.{whole_number, below_zero}
 use Rattle.cell_values.specs.Error.{error_word}
 use Rattle.cell_values.specs.Text.{is_text}
 
@@ -34,7 +35,7 @@ value_text values.Blank = codes "0"
 
 -- a value that a word says: a number within the magnitude, a text, a boolean or an error
 abbrev pub HasWord : Value → Type 0
-HasWord (values.Num n) = unsigned_abs n ≤ GREATEST
+HasWord (values.Num n) = unsigned_abs n ≤ LARGEST_NUMBER
 HasWord (values.Text t) = IsTrue (is_text t)
 HasWord (values.Bool b) = Unit {0}
 HasWord (values.Error e) = Unit {0}
@@ -53,11 +54,15 @@ number_word (c ∷ ds) =
 
 -- `TRUE` or `FALSE`
 abbrev pub bool_word : List ℕ → Option Bool
-bool_word w = if bytes_eq w (codes "TRUE") then Some true else (if bytes_eq w (codes "FALSE") then Some false else None)
+bool_word w =
+    if bytes_eq w (codes "TRUE") then Some true
+    else (if bytes_eq w (codes "FALSE") then Some false else None)
 
 -- one of the seven error words
 abbrev pub kind_of_word : List ℕ → Option ErrorKind
-kind_of_word w = find (λ e. bytes_eq w (error_word e)) (errors.Null ∷ errors.Div0 ∷ errors.Value ∷ errors.Ref ∷ errors.Name ∷ errors.Num ∷ errors.Na ∷ [])
+kind_of_word w =
+    find (λ e. bytes_eq w (error_word e))
+    (errors.Null ∷ errors.Div0 ∷ errors.Value ∷ errors.Ref ∷ errors.Name ∷ errors.Num ∷ errors.Na ∷ [])
 
 -- the bytes up to the closing `"`, which ends the word, with each doubled `"` made one
 abbrev pub before_closing_quote : List ℕ → Option (List ℕ)
@@ -74,7 +79,8 @@ text_of_bytes t = if is_text t then Some t else None
 -- `"`, the bytes of a text with each `"` doubled, `"`
 abbrev pub text_word : List ℕ → Option (List ℕ)
 text_word [] = None
-text_word (c ∷ cs) = if c == 34 then option_and_then text_of_bytes (before_closing_quote cs) else None
+text_word (c ∷ cs) =
+    if c == 34 then option_and_then text_of_bytes (before_closing_quote cs) else None
 
 -- what a value word says; None where the bytes are no value word
 abbrev pub value_of_word : List ℕ → Option Value

@@ -5,8 +5,7 @@ ghost use Rattle.std.specs.Option.{option_map};
 ghost use Rattle.cell_values.specs.Digits.{whole_number, below_zero, are_digits, has_number_form, number_of_digits, signed_number, after_spaces, without_outer_spaces};
 ghost use Rattle.cell_values.specs.Word.{number_word};
 
-/// The greatest magnitude of a number.
-pub const LARGEST_NUMBER: u64 = 999_999_999_999_999;
+use super::limits::LARGEST_NUMBER;
 
 /// The number that one or more decimal digits stand for, where it is within the magnitude.
 fn whole(digits: &[u8]) -> Option<u64>

@@ -5,6 +5,7 @@ ghost use Rattle.std.specs.Cmp.Lexicographic.{pointwise, slice_cmp, nat_list_eq_
 ghost use Rattle.std.specs.List.{list_all};
 ghost use Rattle.cell_values.specs.Name.{is_name, is_name_byte};
 
+use super::limits::LONGEST_NAME;
 use super::memory::Memory;
 use std::alloc::Global;
 use std::cmp::Ordering;
@@ -118,7 +119,9 @@ fn has_form(bytes: &[u8]) -> bool
 {
     match bytes {
         [] => false,
-        [first, rest @ ..] => first.is_ascii_alphabetic() && are_inner(rest) && bytes.len() <= 255,
+        [first, rest @ ..] => first.is_ascii_alphabetic()
+            && are_inner(rest)
+            && bytes.len() <= LONGEST_NAME,
     }
 }
 

@@ -138,6 +138,27 @@ fn a_value_word_is_read_and_nothing_else(rt: HostRuntime) -> Result<(), Fail> {
 }
 
 #[test]
+fn digits_are_read_with_leading_zeros_and_a_minus(rt: HostRuntime) -> Result<(), Fail> {
+    for (bytes, number) in [
+        ("0", Some(0)),
+        ("-0", Some(0)),
+        ("007", Some(7)),
+        ("-0012", Some(-12)),
+        ("999999999999999", Some(999_999_999_999_999)),
+        ("1000000000000000", None),
+        ("-1000000000000000", None),
+    ] {
+        assert!(rt; has_number_form(bytes.as_bytes()), "{bytes}");
+        assert_eq!(rt; read_digits(bytes.as_bytes()), number, "{bytes}");
+    }
+    for bytes in ["", "-", "+5", "--5", " 5", "5 ", "1.5", "x"] {
+        assert!(rt; !has_number_form(bytes.as_bytes()), "{bytes}");
+        assert_eq!(rt; read_digits(bytes.as_bytes()), None, "{bytes}");
+    }
+    Ok(())
+}
+
+#[test]
 fn values_count_as_booleans_and_texts(rt: HostRuntime) -> Result<(), Fail> {
     for (word, truth, text) in [
         ("-2", Ok(true), "-2"),
@@ -158,6 +179,8 @@ fn values_count_as_booleans_and_texts(rt: HostRuntime) -> Result<(), Fail> {
     );
     assert_eq!(rt; negate(&Value::Bool(true)), Value::Num(-1));
     assert_eq!(rt; ErrorKind::Na.code(), 42);
+    assert_eq!(rt; Value::Blank.or_zero(), Value::Num(0));
+    assert_eq!(rt; Value::Bool(true).or_zero(), Value::Bool(true));
     Ok(())
 }
 

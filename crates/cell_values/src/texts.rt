@@ -5,6 +5,7 @@ ghost use Rattle.std.specs.Char.{is_ascii_control};
 ghost use Rattle.std.specs.Str.{chars};
 ghost use Rattle.std.specs.String.{string_bytes};
 
+use super::limits::LONGEST_TEXT;
 use super::memory::Memory;
 use std::alloc::{AllocError, Global};
 use std::marker::Model;
@@ -38,9 +39,6 @@ pub enum TextFault {
     Control(usize),
 }
 
-/// The greatest number of characters of a text.
-const CHARACTER_LIMIT: usize = 32_767;
-
 impl Text {
     ghost use Rattle.cell_values.specs.Text.{is_text};
     ghost use Rattle.cell_values.specs.TextFault.{IsFaultOf};
@@ -51,7 +49,7 @@ impl Text {
         ensures ok { IfOk result (λ _. IsTrue (is_text s.now)) }
         ensures fault { IfErr result (λ fault. IsFaultOf fault s.now) }
     {
-        if count_characters(s) > CHARACTER_LIMIT {
+        if count_characters(s) > LONGEST_TEXT {
             return Err(TextFault::TooLong);
         }
         if let Some(place) = first_control(s.as_bytes()) {
@@ -111,7 +109,7 @@ impl Text {
         ensures { IfOk result (λ both. both ≡ if_short (self.now ++ other.now)) }
     {
         let both = joined(alloc, self.as_str(), other.as_str())?;
-        if count_characters(both.as_str()) > CHARACTER_LIMIT {
+        if count_characters(both.as_str()) > LONGEST_TEXT {
             return Ok(None);
         }
         let shared = ArcStr::from_string(both)?;

@@ -6,7 +6,7 @@ use Rattle.std.proofs.lemmas.Str.{cons_from_encodes, length-le-encodes}
 use Rattle.std.specs.List.{find, range_with_len, starts_with}
 use Rattle.std.specs.Str.{chars}
 use lib.Utf8.{encode, encodes}
-use Rattle.functions.specs.Texts.{without_first, stands_behind, found_behind}
+use Rattle.functions.specs.Texts.{without_first, stands_behind, offset_of}
 
 pub true_or_false : (b : Bool) → b ≡ true → b ≡ false → ⊥
 true_or_false true e f = absurd (cc)
@@ -35,11 +35,11 @@ find_nowhere f a (suc n) none =
 
 -- the least place at which a text stands
 pub found_at : (p t : List ℕ) (least before : ℕ) → least ≤ before → before < length (chars t) + 1 → stands_behind p t before ≡ true → ((k : ℕ) → least ≤ k → k < before → stands_behind p t k ≡ false) →
-    Some before ≡ found_behind p t least
+    Some before ≡ offset_of p t least
 found_at p t least before low high is none = sym (find_first (stands_behind p t) least (length (chars t) + 1 - least) before low (omega arith) is none)
 
 -- a text stands nowhere
-pub found_nowhere : (p t : List ℕ) (least : ℕ) → ((k : ℕ) → least ≤ k → k < length (chars t) + 1 → stands_behind p t k ≡ false) → None ≡ found_behind p t least
+pub found_nowhere : (p t : List ℕ) (least : ℕ) → ((k : ℕ) → least ≤ k → k < length (chars t) + 1 → stands_behind p t k ≡ false) → None ≡ offset_of p t least
 found_nowhere p t least none = sym (find_nowhere (stands_behind p t) least (length (chars t) + 1 - least) (λ j p q. none j p (omega arith)))
 
 -- a step over one character

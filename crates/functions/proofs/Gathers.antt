@@ -1,7 +1,8 @@
 -- What is gathered from a list of results, piece by piece.
 use Rattle.std.proofs.Common.{◌≡◌, List, [], ◌∷◌, ◌++◌, Result, Ok, Err, refl, sym, ap, ◌∙◌}
 use Rattle.cell_values.specs.declared.errors.ErrorKind.{ErrorKind}
-use Rattle.functions.specs.Inputs.{all_ok, with_first, fold_of_values}
+use Rattle.functions.specs.Folds.{fold_of_values}
+use Rattle.functions.specs.Inputs.{all_ok, with_first}
 
 -- a fold takes the first value first
 pub folded-first : {S A : Type 0} (f : S → A → S) (s : S) (x : A) (r : Result (List A) ErrorKind) → fold_of_values f s (with_first x r) ≡ fold_of_values f (f s x) r

@@ -1,16 +1,16 @@
 -- Laws of the functions, and lemmas on numbers, divisions, what is gathered, and characters.
-pub mod CharacterFacts
-pub mod CountLaws
-pub mod Division
-pub mod FindFacts
-pub mod Gathers
-pub mod Judging
-pub mod NumberLaws
-pub mod PlainFacts
-pub mod PowerLaws
-pub mod RepeatFacts
-pub mod SumLaws
-pub mod TallyLaws
-pub mod TextAnswers
-pub mod TextLaws
-pub mod TrimFacts
+mod CharacterFacts
+mod CountLaws
+mod Division
+mod FindFacts
+mod Gathers
+mod Judging
+mod NumberLaws
+mod PlainFacts
+mod PowerLaws
+mod RepeatFacts
+mod SumLaws
+mod TallyLaws
+mod TextAnswers
+mod TextLaws
+mod TrimFacts

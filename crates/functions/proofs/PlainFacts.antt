@@ -1,5 +1,7 @@
 -- Characters that make a text.
 use Rattle.std.proofs.Common.{◌≡◌, ℕ, zero, suc, ◌≤◌, Bool, true, false, not, ◌&&◌, ◌||◌, cond, leb, List, [], ◌∷◌, ◌++◌, length, take, drop, Some, None, refl, sym, ap, ◌∙◌, subst, arith}
+use Rattle.cell_values.proofs.PublicLaws.{all_three, parts_of_text}
+use Rattle.std.proofs.lemmas.Bool.{and_parts, le-leb}
 use Rattle.std.proofs.lemmas.Bool.Decides.{nat_tests}
 use Rattle.std.proofs.lemmas.List.Folds.{list_any-append}
 use Rattle.std.proofs.lemmas.Str.{is_utf8-from_IsUtf8, IsUtf8-from_is_utf8, chars-encodes, encodes-chars, scalars-chars}
@@ -24,42 +26,22 @@ control_encodes [] = refl
 control_encodes (c ∷ cs) =
     list_any-append is_ascii_control (encode c) (encodes cs) ∙ (ap (λ b. b || list_any is_ascii_control (encodes cs)) (control_encode c) ∙ ap (λ b. is_ascii_control c || b) (control_encodes cs))
 
-both_true : (a b : Bool) → a && b ≡ true → (a ≡ true) × (b ≡ true)
-both_true true true e = (refl, refl)
-both_true true false e = absurd (cc)
-both_true false b e = absurd (cc)
-
-not_true : (b : Bool) → not b ≡ true → b ≡ false
-not_true true e = absurd (cc)
-not_true false e = refl
-
-all_three : (a b d : Bool) → a ≡ true → b ≡ true → d ≡ true → a && (b && d) ≡ true
-all_three a b d x y z = grind arith
-
-leb_true : (m n : ℕ) → m ≤ n → leb m n ≡ true
-leb_true m n h = grind (arith, nat_tests)
-
-le_from_leb : (m n : ℕ) → leb m n ≡ true → m ≤ n
-le_from_leb m n e = grind (arith, nat_tests)
-
 -- the parts of a text: its characters are plain and few
-pub record TextParts (t : List ℕ) : Type 0 where
+pub record PlainParts (t : List ℕ) : Type 0 where
   pub utf8 : IsUtf8 t
   pub plain : Plain (chars t)
   pub few : length (chars t) ≤ 32767
 
-pub parts_of_text : (t : List ℕ) → is_text t ≡ true → TextParts t
-parts_of_text t e =
-    let p = both_true (is_utf8 t) (leb (length (chars t)) 32767 && not (list_any is_ascii_control t)) e in
-    let q = both_true (leb (length (chars t)) 32767) (not (list_any is_ascii_control t)) p.1 in
-    let utf8 : IsUtf8 t = IsUtf8-from_is_utf8 t p.0 in
+pub plain_parts : (t : List ℕ) → is_text t ≡ true → PlainParts t
+plain_parts t e =
+    let p = parts_of_text t e in
     record {
-      utf8 = utf8;
+      utf8 = p.utf8;
       plain = record {
-        scalar = scalars-chars t utf8;
-        none = sym (control_encodes (chars t)) ∙ (ap (list_any is_ascii_control) (encodes-chars t utf8) ∙ not_true _ q.1);
+        scalar = scalars-chars t p.utf8;
+        none = sym (control_encodes (chars t)) ∙ (ap (list_any is_ascii_control) (encodes-chars t p.utf8) ∙ p.none);
       };
-      few = le_from_leb _ _ q.0;
+      few = p.few;
     }
 
 -- few plain characters are a text
@@ -67,7 +49,7 @@ pub text_of_plain : (cs : List ℕ) → Plain cs → length cs ≤ 32767 → is_
 text_of_plain cs plain few =
     all_three (is_utf8 (encodes cs)) (leb (length (chars (encodes cs))) 32767) (not (list_any is_ascii_control (encodes cs)))
     (is_utf8-from_IsUtf8 (encodes cs) (cs, (plain.scalar, refl)))
-    (leb_true _ _ (subst (λ (n : ℕ). n ≤ 32767) (sym (ap length (chars-encodes cs plain.scalar))) few))
+    (le-leb _ _ (subst (λ (n : ℕ). n ≤ 32767) (sym (ap length (chars-encodes cs plain.scalar))) few))
     (ap not (control_encodes cs ∙ plain.none))
 
 -- what is a text is one
@@ -82,7 +64,7 @@ text_if_short cs plain =
     grind arith
 
 scalar_step : (a b : Bool) → a && b ≡ true → b ≡ true
-scalar_step a b e = (both_true a b e).1
+scalar_step a b e = (and_parts a b e).1
 
 or_false : (a b : Bool) → a || b ≡ false → (a ≡ false) × (b ≡ false)
 or_false true b e = absurd (cc)
@@ -102,7 +84,7 @@ pub record PlainHead (c : ℕ) (cs : List ℕ) : Type 0 where
 
 pub plain_head : (c : ℕ) (cs : List ℕ) → Plain (c ∷ cs) → PlainHead c cs
 plain_head c cs plain =
-    let s = both_true (scalar c) (scalars cs) plain.scalar in
+    let s = and_parts (scalar c) (scalars cs) plain.scalar in
     let n = or_false (is_ascii_control c) (list_any is_ascii_control cs) plain.none in
     record { scalar = s.0; none = n.0; rest = record { scalar = s.1; none = n.1 } }
 

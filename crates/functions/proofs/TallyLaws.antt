@@ -16,10 +16,10 @@ use Rattle.functions.specs.declared.tallies.Least.{Least}
 use Rattle.functions.specs.declared.tallies.Greatest.{Greatest}
 use Rattle.functions.specs.declared.tallies.Product.{Product}
 use Rattle.functions.specs.declared.tallies.Product.TheVariants.{Empty, Within, Beyond}
-use Rattle.functions.specs.Inputs.{fold_of_values}
-use Rattle.functions.specs.Numbers.{is_within}
+use Rattle.functions.specs.Folds.{fold_of_values}
+use Rattle.cell_values.specs.Value.{is_in_magnitude}
 use Rattle.functions.proofs.NumberLaws.{outside, far_from, choice}
-use Rattle.functions.specs.Gathering.{of_numbers, total, least, greatest, product}
+use Rattle.functions.specs.Gathering.{of_numbers, total, least_of, greatest_of, product}
 use Rattle.functions.specs.Tallies.{sum_step, least_step, greatest_step, product_step, product_so_far, product_value}
 
 sum_is : (m : ℤ) (ns : List ℤ) → (fold sum_step (record { 0 = m }) ns).0 ≡ fold ◌+ℤ◌ m ns
@@ -40,7 +40,7 @@ least_is m (n ∷ ns) = least_is (int_min m n) ns
 
 -- a tally of the least is the least
 pub least_kept : (r : Result (List ℤ) ErrorKind) (s : Least) → fold_of_values least_step (record { 0 = None }) r ≡ Ok s
-    → values.Num (unwrap_or s.0 (pos 0)) ≡ of_numbers (λ ns. values.Num (least ns)) r
+    → values.Num (unwrap_or s.0 (pos 0)) ≡ of_numbers (λ ns. values.Num (least_of ns)) r
 least_kept (Err e) s h = absurd (cc)
 least_kept (Ok []) s h =
     let same : record { 0 = None } ≡ s = cc in
@@ -55,7 +55,7 @@ greatest_is m (n ∷ ns) = greatest_is (int_max m n) ns
 
 -- a tally of the greatest is the greatest
 pub greatest_kept : (r : Result (List ℤ) ErrorKind) (s : Greatest) → fold_of_values greatest_step (record { 0 = None }) r ≡ Ok s
-    → values.Num (unwrap_or s.0 (pos 0)) ≡ of_numbers (λ ns. values.Num (greatest ns)) r
+    → values.Num (unwrap_or s.0 (pos 0)) ≡ of_numbers (λ ns. values.Num (greatest_of ns)) r
 greatest_kept (Err e) s h = absurd (cc)
 greatest_kept (Ok []) s h =
     let same : record { 0 = None } ≡ s = cc in
@@ -82,7 +82,7 @@ beyond_times p n far = elim (choice (int_eq n (pos 0))) [
 ]
 
 known_times : (p n : ℤ) → product_step (product_so_far p) n ≡ product_so_far (p *ℤ n)
-known_times p n = elim (choice (is_within p)) [
+known_times p n = elim (choice (is_in_magnitude p)) [
   | inl e ↦ ap (λ b. product_step (cond b (Within p) Beyond) n) e
   | inr e ↦ ap (λ b. product_step (cond b (Within p) Beyond) n) e ∙ beyond_times p n (far_from p e)
 ]
@@ -92,7 +92,7 @@ product_is p [] = refl
 product_is p (n ∷ ns) = ap (λ s. fold product_step s ns) (known_times p n) ∙ product_is (p *ℤ n) ns
 
 shown_known : (p : ℤ) → product_value (product_so_far p) ≡ within_magnitude p
-shown_known p = elim (choice (is_within p)) [
+shown_known p = elim (choice (is_in_magnitude p)) [
   | inl e ↦ ap (λ b. product_value (cond b (Within p) Beyond)) e ∙ sym (ap (λ b. cond b (values.Num p) (values.Error errors.Num)) e)
   | inr e ↦ ap (λ b. product_value (cond b (Within p) Beyond)) e ∙ sym (ap (λ b. cond b (values.Num p) (values.Error errors.Num)) e)
 ]

@@ -1,6 +1,6 @@
 -- Laws of the functions on texts.
 use Rattle.std.proofs.Common.{◌≡◌, ◌⊎◌, inl, inr, ℕ, zero, suc, ◌+◌, ◌-◌, ◌<◌, ◌≤◌, Bool, ◌&&◌, cond, leb, true, false, pos, List, [], ◌∷◌, ◌++◌, length, take, drop, Option, Some, None, refl, sym, ap, ◌∙◌, subst, add-one, append_assoc, arith}
-use Rattle.std.proofs.lemmas.Bool.{cases_eq}
+use Rattle.std.proofs.lemmas.Bool.{cases_eq, le-leb}
 use Rattle.std.proofs.lemmas.Bool.Decides.{Decides-eqb, nat_tests}
 use Rattle.std.proofs.lemmas.List.{length-take, length-drop, length-append, take_all, drop_at}
 use Rattle.std.proofs.lemmas.Slice.Eq.{starts_is}
@@ -14,30 +14,27 @@ use Rattle.cell_values.specs.Digits.{after_spaces}
 use Rattle.cell_values.specs.Text.{is_text, if_short}
 use Rattle.cell_values.specs.declared.errors.ErrorKind.TheVariants as errors
 use Rattle.cell_values.specs.declared.values.Value.TheVariants as values
-use Rattle.functions.specs.TextLaws.{StandsAt, IsLeastPlace}
-use Rattle.functions.specs.Texts.{first_characters, without_first, mid_part, single_spacing_of, before_spaces, stands_behind, found_behind, find_place}
+use Rattle.functions.specs.TextLaws.{StandsIn, IsLeastPlace}
+use Rattle.functions.specs.Texts.{first_characters, without_first, mid_part, single_spacing_of, before_spaces, stands_behind, offset_of, find_place}
 use Rattle.functions.proofs.CharacterFacts.{cut}
 use Rattle.functions.proofs.FindFacts.{true_or_false}
-use Rattle.functions.proofs.PlainFacts.{parts_of_text, plain_drop}
+use Rattle.functions.proofs.PlainFacts.{plain_parts, plain_drop}
 use Rattle.functions.proofs.TrimFacts.{inner, start_other, after_other_space, inner_other, inner_space_other, two_spaces, tidied_plain}
 
 -- the front and the rest
 
-leb_true : (m n : ℕ) → m ≤ n → leb m n ≡ true
-leb_true m n h = grind (arith, nat_tests)
-
 if_short_is : (t : List ℕ) → length (chars t) ≤ 32767 → if_short t ≡ Some t
-if_short_is t few = ap (λ b. cond b (Some t) None) (leb_true (length (chars t)) 32767 few)
+if_short_is t few = ap (λ b. cond b (Some t) None) (le-leb (length (chars t)) 32767 few)
 
 rest_is : (t : List ℕ) (n k : ℕ) → is_text t ≡ true → length (chars t) ≤ n + k → first_characters k (without_first n t) ≡ without_first n t
 rest_is t n k e far =
-    let p = parts_of_text t e in
+    let p = plain_parts t e in
     let same : chars (without_first n t) ≡ drop n (chars t) = chars-encodes (drop n (chars t)) (plain_drop n (chars t) p.plain).scalar in
     ap encodes (ap (take k) same ∙ take_all k (drop n (chars t)) (omega (arith, length-drop n (chars t))))
 
 pub join_law : (t : List ℕ) (n k : ℕ) → is_text t ≡ true → length (chars t) ≤ n + k → join_of (values.Text (first_characters n t)) (mid_part t (pos (n + 1)) (pos k)) ≡ values.Text t
 join_law t n k e far =
-    let p = parts_of_text t e in
+    let p = plain_parts t e in
     ap (λ m. join_of (values.Text (first_characters n t)) (mid_part t (pos m) (pos k))) (add-one n) ∙
     (ap (text_join_of (first_characters n t)) (rest_is t n k e far) ∙
     (ap (λ s. option_map_or values.Text (if_short s) (values.Error errors.Value)) (sym (cut n t p.utf8)) ∙
@@ -97,7 +94,7 @@ scalars_take (suc n) (c ∷ cs) e =
     let both = scalar_front (scalar c) (scalars cs) e in
     ap (λ b. b && scalars (take n cs)) both.0 ∙ scalars_take n cs both.1
 
-stands_to : (p t : List ℕ) (n : ℕ) → IsUtf8 t → n ≤ length (chars t) → stands_behind p t n ≡ true → StandsAt p t (n + 1)
+stands_to : (p t : List ℕ) (n : ℕ) → IsUtf8 t → n ≤ length (chars t) → stands_behind p t n ≡ true → StandsIn p t (n + 1)
 stands_to p t n utf8 within is =
     let rest = without_first n t in
     let split : rest ≡ p ++ drop (length p) rest = (starts_is Decides-eqb rest p (stands_behind p t n) refl).0 is in
@@ -122,7 +119,7 @@ pub record Stands (p t : List ℕ) (n : ℕ) : Type 0 where
   pub within : n ≤ length (chars t)
   pub is : stands_behind p t n ≡ true
 
-stands_from : (p t : List ℕ) (place : ℕ) → IsUtf8 t → StandsAt p t place → Stands p t (place - 1)
+stands_from : (p t : List ℕ) (place : ℕ) → IsUtf8 t → StandsIn p t place → Stands p t (place - 1)
 stands_from p t place utf8 (front, back, front_utf8, split, count) =
     let n : length (chars front) ≡ place - 1 = omega arith in
     let both : encodes (chars t) ≡ encodes (chars front) ++ (p ++ back) = encodes-chars t utf8 ∙ (split ∙ ap (λ s. s ++ (p ++ back)) (sym (encodes-chars front front_utf8))) in
@@ -183,23 +180,23 @@ nothing_found None e = refl
 pub least_law : (p t : List ℕ) (n place : ℕ) → is_text t ≡ true → find_place p t (pos n) ≡ values.Num (pos place) → IsLeastPlace p t n place
 least_law p t zero place e is = absurd (cc)
 least_law p t (suc n) place e is =
-    let utf8 = (parts_of_text t e).utf8 in
-    let at = place_found (found_behind p t n) place is in
+    let utf8 = (plain_parts t e).utf8 in
+    let at = place_found (offset_of p t n) place is in
     let first = first_of (stands_behind p t) n (length (chars t) + 1 - n) at.0 at.1.0 in
     let same : at.0 + 1 ≡ place = at.1.1 in
     let low : n ≤ at.0 = first.low in
     let high : at.0 < n + (length (chars t) + 1 - n) = first.high in (
       omega arith,
-      subst (λ (k : ℕ). StandsAt p t k) same (stands_to p t at.0 utf8 (omega arith) first.is),
+      subst (λ (k : ℕ). StandsIn p t k) same (stands_to p t at.0 utf8 (omega arith) first.is),
       λ k from below stands.
           let s = stands_from p t k utf8 stands in
           true_or_false (stands_behind p t (k - 1)) s.is (first.none (k - 1) (omega arith) (omega arith)),
     )
 
-pub none_law : (p t : List ℕ) (n place : ℕ) → is_text t ≡ true → 0 < n → find_place p t (pos n) ≡ values.Error errors.Value → n ≤ place → StandsAt p t place → ⊥
+pub none_law : (p t : List ℕ) (n place : ℕ) → is_text t ≡ true → 0 < n → find_place p t (pos n) ≡ values.Error errors.Value → n ≤ place → StandsIn p t place → ⊥
 none_law p t zero place e some is from stands = absurd (omega arith)
 none_law p t (suc n) place e some is from stands =
-    let s = stands_from p t place (parts_of_text t e).utf8 stands in
+    let s = stands_from p t place (plain_parts t e).utf8 stands in
     let within : place - 1 ≤ length (chars t) = s.within in
     true_or_false (stands_behind p t (place - 1)) s.is
-    (none_of (stands_behind p t) n (length (chars t) + 1 - n) (nothing_found (found_behind p t n) is) (place - 1) (omega arith) (omega arith))
+    (none_of (stands_behind p t) n (length (chars t) + 1 - n) (nothing_found (offset_of p t n) is) (place - 1) (omega arith) (omega arith))

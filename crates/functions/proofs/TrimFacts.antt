@@ -7,12 +7,13 @@ use Rattle.std.specs.Str.{IsUtf8, chars}
 use lib.Utf8.{encode, encodes}
 use Rattle.cell_values.specs.Digits.{after_spaces}
 use Rattle.cell_values.specs.Text.{is_text}
-use Rattle.functions.proofs.PlainFacts.{Plain, parts_of_text, text_of_plain, plain_nil, plain_head, plain_cons}
-use Rattle.functions.specs.Texts.{none_left, before_spaces, single_spaced, single_spacing_of, character_behind_space}
+use Rattle.functions.proofs.PlainFacts.{Plain, plain_parts, text_of_plain, plain_nil, plain_head, plain_cons}
+use Rattle.functions.specs.TextSteps.{character_behind_space}
+use Rattle.functions.specs.Texts.{is_empty, before_spaces, with_single_spaces, single_spacing_of}
 
 -- what stays of the characters after one that is no space
 abbrev pub inner : List ℕ → List ℕ
-inner cs = single_spaced (before_spaces cs)
+inner cs = with_single_spaces (before_spaces cs)
 
 -- what is still to come behind the bytes that are written, where a space is wanted or not
 abbrev pub to_come : List ℕ → Bool → List ℕ → List ℕ
@@ -26,30 +27,30 @@ not_zero n h = grind (arith, nat_tests)
 not_space : (c : ℕ) → c ≢ 32 → eqb c 32 ≡ false
 not_space c ne = grind (arith, nat_tests)
 
-single_after : (a : Bool) (c : ℕ) (xs : List ℕ) → a ≡ false → cond a (single_spaced xs) (c ∷ single_spaced xs) ≡ c ∷ single_spaced xs
-single_after a c xs e = ap (λ b. cond b (single_spaced xs) (c ∷ single_spaced xs)) e
+single_after : (a : Bool) (c : ℕ) (xs : List ℕ) → a ≡ false → cond a (with_single_spaces xs) (c ∷ with_single_spaces xs) ≡ c ∷ with_single_spaces xs
+single_after a c xs e = ap (λ b. cond b (with_single_spaces xs) (c ∷ with_single_spaces xs)) e
 
-single_other : (c : ℕ) (xs : List ℕ) → c ≢ 32 → single_spaced (c ∷ xs) ≡ c ∷ single_spaced xs
+single_other : (c : ℕ) (xs : List ℕ) → c ≢ 32 → with_single_spaces (c ∷ xs) ≡ c ∷ with_single_spaces xs
 single_other c [] ne = refl
 single_other c (d ∷ ds) ne = single_after (eqb c 32 && eqb d 32) c (d ∷ ds) (ap (λ b. b && eqb d 32) (not_space c ne))
 
-single_before : (c : ℕ) (xs : List ℕ) → c ≢ 32 → single_spaced (32 ∷ c ∷ xs) ≡ 32 ∷ c ∷ single_spaced xs
+single_before : (c : ℕ) (xs : List ℕ) → c ≢ 32 → with_single_spaces (32 ∷ c ∷ xs) ≡ 32 ∷ c ∷ with_single_spaces xs
 single_before c xs ne = single_after (eqb c 32) 32 (c ∷ xs) (not_space c ne) ∙ ap (λ t. 32 ∷ t) (single_other c xs ne)
 
 before_other : (c : ℕ) (cs : List ℕ) → c ≢ 32 → before_spaces (c ∷ cs) ≡ c ∷ before_spaces cs
-before_other c cs ne = ap (λ b. cond (b && none_left (before_spaces cs)) [] (c ∷ before_spaces cs)) (not_space c ne)
+before_other c cs ne = ap (λ b. cond (b && is_empty (before_spaces cs)) [] (c ∷ before_spaces cs)) (not_space c ne)
 
 -- a space before what stays
 abbrev behind_space : List ℕ → List ℕ
-behind_space ys = cond (none_left ys) [] (32 ∷ ys)
+behind_space ys = cond (is_empty ys) [] (32 ∷ ys)
 
 pub inner_other : (c : ℕ) (cs : List ℕ) → c ≢ 32 → inner (c ∷ cs) ≡ c ∷ inner cs
-inner_other c cs ne = ap single_spaced (before_other c cs ne) ∙ single_other c (before_spaces cs) ne
+inner_other c cs ne = ap with_single_spaces (before_other c cs ne) ∙ single_other c (before_spaces cs) ne
 
 pub inner_space_other : (c : ℕ) (cs : List ℕ) → c ≢ 32 → inner (32 ∷ c ∷ cs) ≡ 32 ∷ c ∷ inner cs
-inner_space_other c cs ne = ap (λ ys. single_spaced (behind_space ys)) (before_other c cs ne) ∙ single_before c (before_spaces cs) ne
+inner_space_other c cs ne = ap (λ ys. with_single_spaces (behind_space ys)) (before_other c cs ne) ∙ single_before c (before_spaces cs) ne
 
-pub two_spaces : (ys : List ℕ) → single_spaced (behind_space (behind_space ys)) ≡ single_spaced (behind_space ys)
+pub two_spaces : (ys : List ℕ) → with_single_spaces (behind_space (behind_space ys)) ≡ with_single_spaces (behind_space ys)
 two_spaces [] = refl
 two_spaces (y ∷ ys) = refl
 
@@ -144,28 +145,28 @@ tame_cons n c cs ds t u =
 tame_before : (n : ℕ) (cs : List ℕ) → Tame n cs → Tame n (before_spaces cs)
 tame_before n [] t = t
 tame_before n (c ∷ cs) t =
-    tame_choice n (eqb c 32 && none_left (before_spaces cs)) [] (c ∷ before_spaces cs) (tame_nil n) (tame_cons n c cs (before_spaces cs) t (tame_before (n - 1) cs (tame_tail n c cs t)))
+    tame_choice n (eqb c 32 && is_empty (before_spaces cs)) [] (c ∷ before_spaces cs) (tame_nil n) (tame_cons n c cs (before_spaces cs) t (tame_before (n - 1) cs (tame_tail n c cs t)))
 
 tame_after : (n : ℕ) (cs : List ℕ) → Tame n cs → Tame n (after_spaces cs)
 tame_after n [] t = t
 tame_after n (c ∷ cs) t = tame_choice n (eqb c 32) (after_spaces cs) (c ∷ cs) (tame_more n (after_spaces cs) (tame_after (n - 1) cs (tame_tail n c cs t))) t
 
-tame_single : (n : ℕ) (cs : List ℕ) → Tame n cs → Tame n (single_spaced cs)
+tame_single : (n : ℕ) (cs : List ℕ) → Tame n cs → Tame n (with_single_spaces cs)
 tame_single n [] t = t
 tame_single n (c ∷ []) t = t
 tame_single n (c ∷ d ∷ cs) t =
     let rest = tame_single (n - 1) (d ∷ cs) (tame_tail n c (d ∷ cs) t) in
-    tame_choice n (eqb c 32 && eqb d 32) (single_spaced (d ∷ cs)) (c ∷ single_spaced (d ∷ cs)) (tame_more n (single_spaced (d ∷ cs)) rest) (tame_cons n c (d ∷ cs) (single_spaced (d ∷ cs)) t rest)
+    tame_choice n (eqb c 32 && eqb d 32) (with_single_spaces (d ∷ cs)) (c ∷ with_single_spaces (d ∷ cs)) (tame_more n (with_single_spaces (d ∷ cs)) rest) (tame_cons n c (d ∷ cs) (with_single_spaces (d ∷ cs)) t rest)
 
 pub tidied_plain : (t : List ℕ) → is_text t ≡ true → Plain (single_spacing_of (chars t))
 tidied_plain t e =
-    let p = parts_of_text t e in
+    let p = plain_parts t e in
     (tame_single 32767 (before_spaces (after_spaces (chars t))) (tame_before 32767 (after_spaces (chars t)) (tame_after 32767 (chars t) (record { plain = p.plain; few = p.few })))).plain
 
 -- a tidied text is a text
 pub tidied_is_text : (t : List ℕ) → is_text t ≡ true → is_text (encodes (single_spacing_of (chars t))) ≡ true
 tidied_is_text t e =
-    let p = parts_of_text t e in
+    let p = plain_parts t e in
     let tame = tame_single 32767 (before_spaces (after_spaces (chars t))) (tame_before 32767 (after_spaces (chars t)) (tame_after 32767 (chars t) (record { plain = p.plain; few = p.few }))) in
     text_of_plain (single_spacing_of (chars t)) tame.plain tame.few
 

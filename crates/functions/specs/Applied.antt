@@ -60,4 +60,5 @@ result_of functions.Value args = value_function_of args
 
 -- what the function of a name answers; no function's name is `#NAME?`
 abbrev pub result_by_name : Option Function → List Arg → Value
-result_by_name function args = option_map_or (λ f. result_of f args) function (values.Error errors.Name)
+result_by_name function args =
+    option_map_or (λ f. result_of f args) function (values.Error errors.Name)

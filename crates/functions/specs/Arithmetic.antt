@@ -34,7 +34,8 @@ floor n k = if is_rounded_up n k then int_div n k -ℤ pos 1 else int_div n k
 
 -- n less k times the floor of n by k; by 0 it is `#DIV/0!`
 abbrev pub modulus : ℤ → ℤ → Value
-modulus n k = if int_eq k (pos 0) then values.Error errors.Div0 else within_magnitude (n -ℤ k *ℤ floor n k)
+modulus n k =
+    if int_eq k (pos 0) then values.Error errors.Div0 else within_magnitude (n -ℤ k *ℤ floor n k)
 
 -- MOD: what the floor of a division leaves
 abbrev pub mod_of : Value → Value → Value
@@ -42,7 +43,8 @@ mod_of a b = on_numbers modulus (number_of a) (number_of b)
 
 -- n by k toward zero; by 0 it is `#DIV/0!`
 abbrev pub whole_quotient : ℤ → ℤ → Value
-whole_quotient n k = if int_eq k (pos 0) then values.Error errors.Div0 else within_magnitude (int_div n k)
+whole_quotient n k =
+    if int_eq k (pos 0) then values.Error errors.Div0 else within_magnitude (int_div n k)
 
 -- QUOTIENT: the quotient toward zero
 abbrev pub quotient_of : Value → Value → Value
@@ -59,7 +61,8 @@ power n (pos zero) = if int_eq n (pos 0) then values.Error errors.Num else value
 power n (pos (suc k)) = within_magnitude (exact_power n (suc k))
 power n (negsuc k) =
     if int_eq n (pos 0) then values.Error errors.Div0
-    else (if unsigned_abs n == 1 then within_magnitude (exact_power n (suc k)) else values.Error errors.Num)
+    else (if unsigned_abs n == 1 then within_magnitude (exact_power n (suc k))
+    else values.Error errors.Num)
 
 -- POWER: the first number to the second
 abbrev pub power_of : Value → Value → Value

@@ -4,6 +4,7 @@ use Rattle.std.specs.List.{find}
 use Rattle.std.specs.Str.{bytes_eq}
 use Rattle.functions.specs.declared.functions.Function.{Function}
 use Rattle.functions.specs.declared.functions.Function.TheVariants as functions
+use Rattle.functions.specs.declared.limits.TheConstants.{MOST_ARGUMENTS}
 
 -- the name of a function
 abbrev pub word_of : Function → List ℕ
@@ -51,7 +52,14 @@ word_of functions.Value = codes "VALUE"
 -- all functions
 abbrev pub all_functions : List Function
 all_functions =
-    functions.True ∷ functions.False ∷ functions.If ∷ functions.IfError ∷ functions.IfNa ∷ functions.And ∷ functions.Or ∷ functions.Not ∷ functions.IsNumber ∷ functions.IsText ∷ functions.IsLogical ∷ functions.IsError ∷ functions.IsNa ∷ functions.IsBlank ∷ functions.Na ∷ functions.Sum ∷ functions.Product ∷ functions.Min ∷ functions.Max ∷ functions.Count ∷ functions.CountA ∷ functions.Abs ∷ functions.Sign ∷ functions.Mod ∷ functions.Quotient ∷ functions.Power ∷ functions.Choose ∷ functions.Index ∷ functions.Len ∷ functions.Left ∷ functions.Right ∷ functions.Mid ∷ functions.Upper ∷ functions.Lower ∷ functions.Concatenate ∷ functions.Exact ∷ functions.Find ∷ functions.Rept ∷ functions.Trim ∷ functions.Value ∷ []
+    functions.True ∷ functions.False ∷ functions.If ∷ functions.IfError ∷ functions.IfNa ∷
+    functions.And ∷ functions.Or ∷ functions.Not ∷ functions.IsNumber ∷ functions.IsText ∷
+    functions.IsLogical ∷ functions.IsError ∷ functions.IsNa ∷ functions.IsBlank ∷ functions.Na ∷
+    functions.Sum ∷ functions.Product ∷ functions.Min ∷ functions.Max ∷ functions.Count ∷
+    functions.CountA ∷ functions.Abs ∷ functions.Sign ∷ functions.Mod ∷ functions.Quotient ∷
+    functions.Power ∷ functions.Choose ∷ functions.Index ∷ functions.Len ∷ functions.Left ∷
+    functions.Right ∷ functions.Mid ∷ functions.Upper ∷ functions.Lower ∷ functions.Concatenate ∷
+    functions.Exact ∷ functions.Find ∷ functions.Rept ∷ functions.Trim ∷ functions.Value ∷ []
 
 -- the function of a name
 abbrev pub function_named : List ℕ → Option Function
@@ -64,8 +72,8 @@ arity_of functions.False = (0, 0)
 arity_of functions.If = (2, 3)
 arity_of functions.IfError = (2, 2)
 arity_of functions.IfNa = (2, 2)
-arity_of functions.And = (1, 255)
-arity_of functions.Or = (1, 255)
+arity_of functions.And = (1, MOST_ARGUMENTS)
+arity_of functions.Or = (1, MOST_ARGUMENTS)
 arity_of functions.Not = (1, 1)
 arity_of functions.IsNumber = (1, 1)
 arity_of functions.IsText = (1, 1)
@@ -74,18 +82,18 @@ arity_of functions.IsError = (1, 1)
 arity_of functions.IsNa = (1, 1)
 arity_of functions.IsBlank = (1, 1)
 arity_of functions.Na = (0, 0)
-arity_of functions.Sum = (1, 255)
-arity_of functions.Product = (1, 255)
-arity_of functions.Min = (1, 255)
-arity_of functions.Max = (1, 255)
-arity_of functions.Count = (1, 255)
-arity_of functions.CountA = (1, 255)
+arity_of functions.Sum = (1, MOST_ARGUMENTS)
+arity_of functions.Product = (1, MOST_ARGUMENTS)
+arity_of functions.Min = (1, MOST_ARGUMENTS)
+arity_of functions.Max = (1, MOST_ARGUMENTS)
+arity_of functions.Count = (1, MOST_ARGUMENTS)
+arity_of functions.CountA = (1, MOST_ARGUMENTS)
 arity_of functions.Abs = (1, 1)
 arity_of functions.Sign = (1, 1)
 arity_of functions.Mod = (2, 2)
 arity_of functions.Quotient = (2, 2)
 arity_of functions.Power = (2, 2)
-arity_of functions.Choose = (2, 255)
+arity_of functions.Choose = (2, MOST_ARGUMENTS)
 arity_of functions.Index = (3, 3)
 arity_of functions.Len = (1, 1)
 arity_of functions.Left = (1, 2)
@@ -93,7 +101,7 @@ arity_of functions.Right = (1, 2)
 arity_of functions.Mid = (3, 3)
 arity_of functions.Upper = (1, 1)
 arity_of functions.Lower = (1, 1)
-arity_of functions.Concatenate = (1, 255)
+arity_of functions.Concatenate = (1, MOST_ARGUMENTS)
 arity_of functions.Exact = (2, 2)
 arity_of functions.Find = (2, 3)
 arity_of functions.Rept = (2, 2)

@@ -53,37 +53,37 @@ abbrev pub product_of : List Arg → Value
 product_of args = of_numbers (λ ns. within_magnitude (product ns)) (numbers_or_error args)
 
 -- the least of numbers, 0 for none
-abbrev pub least : List ℤ → ℤ
-least [] = pos 0
-least (n ∷ ns) = fold int_min n ns
+abbrev pub least_of : List ℤ → ℤ
+least_of [] = pos 0
+least_of (n ∷ ns) = fold int_min n ns
 
 -- MIN: the least number
 abbrev pub min_of : List Arg → Value
-min_of args = of_numbers (λ ns. values.Num (least ns)) (numbers_or_error args)
+min_of args = of_numbers (λ ns. values.Num (least_of ns)) (numbers_or_error args)
 
 -- the greatest of numbers, 0 for none
-abbrev pub greatest : List ℤ → ℤ
-greatest [] = pos 0
-greatest (n ∷ ns) = fold int_max n ns
+abbrev pub greatest_of : List ℤ → ℤ
+greatest_of [] = pos 0
+greatest_of (n ∷ ns) = fold int_max n ns
 
 -- MAX: the greatest number
 abbrev pub max_of : List Arg → Value
-max_of args = of_numbers (λ ns. values.Num (greatest ns)) (numbers_or_error args)
+max_of args = of_numbers (λ ns. values.Num (greatest_of ns)) (numbers_or_error args)
 
 -- how many numbers an argument has: a direct one 1 where it counts as a number, an area its numbers
-abbrev pub numbers_counted : Arg → ℕ
-numbers_counted (Direct v) = if is_ok (number_of v) then 1 else 0
-numbers_counted (Cells columns vs) = count_by is_number vs
+abbrev pub number_count : Arg → ℕ
+number_count (Direct v) = if is_ok (number_of v) then 1 else 0
+number_count (Cells columns vs) = count_by is_number vs
 
 -- COUNT: how many numbers the arguments have; errors aren't counted
 abbrev pub count_of : List Arg → Value
-count_of args = values.Num (pos (sum_by numbers_counted args))
+count_of args = values.Num (pos (sum_by number_count args))
 
 -- how many values an argument has: a direct one 1, an area those that aren't Blank
-abbrev pub values_counted : Arg → ℕ
-values_counted (Direct v) = 1
-values_counted (Cells columns vs) = count_by (λ v. not (is_blank v)) vs
+abbrev pub value_count : Arg → ℕ
+value_count (Direct v) = 1
+value_count (Cells columns vs) = count_by (λ v. not (is_blank v)) vs
 
 -- COUNTA: how many values the arguments have
 abbrev pub counta_of : List Arg → Value
-counta_of args = values.Num (pos (sum_by values_counted args))
+counta_of args = values.Num (pos (sum_by value_count args))

@@ -1,5 +1,5 @@
 -- What a function's arguments are: values, and areas of cells.
-use Rattle.std.specs.Prelude.{◌≡◌, ◌<◌, ◌≤◌, ◌%◌, ℕ, List, [], ◌∷◌, length, slice_get, Result, Ok, Err, All, fold}
+use Rattle.std.specs.Prelude.{◌≡◌, ◌<◌, ◌≤◌, ◌%◌, ℕ, List, [], ◌∷◌, length, slice_get, Result, Ok, Err, All}
 use Rattle.std.specs.Option.{option_map_or}
 use Rattle.cell_values.specs.declared.errors.ErrorKind.{ErrorKind}
 use Rattle.cell_values.specs.declared.errors.ErrorKind.TheVariants as errors
@@ -7,6 +7,7 @@ use Rattle.cell_values.specs.declared.values.Value.{Value}
 use Rattle.cell_values.specs.declared.values.Value.TheVariants as values
 use Rattle.functions.specs.declared.arguments.Arg.{Arg}
 use Rattle.functions.specs.declared.arguments.Arg.TheVariants.{Direct, Cells}
+use Rattle.functions.specs.declared.limits.TheConstants.{MOST_ARGUMENTS, MOST_VALUES}
 
 -- the one value that an argument has; an area has none of its own
 abbrev pub value_of : Arg → Value
@@ -32,23 +33,11 @@ all_ok [] = Ok []
 all_ok (Ok x ∷ rs) = with_first x (all_ok rs)
 all_ok (Err e ∷ rs) = Err e
 
--- a fold over the values of a result; an error stays
-abbrev pub fold_of_values : {S A : Type 0} → (S → A → S) → S → Result (List A) ErrorKind → Result S ErrorKind
-fold_of_values f s (Ok xs) = Ok (fold f s xs)
-fold_of_values f s (Err e) = Err e
-
--- the most arguments of a call
-abbrev pub MOST_ARGUMENTS : ℕ
-MOST_ARGUMENTS = 255
-
--- the most values of an area
-abbrev pub MOST_VALUES : ℕ
-MOST_VALUES = 65536
-
--- an argument in form: an area has at least one column, and from 1 to 65,536 values in whole rows
+-- an argument in form: an area has at least one column, and at least one value and no more than the limit, in whole rows
 abbrev pub IsInput : Arg → Type 0
 IsInput (Direct v) = Unit {0}
-IsInput (Cells columns vs) = (0 < columns) × (0 < length vs) × (length vs ≤ MOST_VALUES) × (length vs % columns ≡ 0)
+IsInput (Cells columns vs) =
+    (0 < columns) × (0 < length vs) × (length vs ≤ MOST_VALUES) × (length vs % columns ≡ 0)
 
 -- the arguments of a call in form
 pub record AreInputs (args : List Arg) : Type 0 where

@@ -41,10 +41,10 @@ abbrev pub or_of : List Arg → Value
 or_of args = verdict_of (λ bs. list_any (λ b. b) bs) (truths args)
 
 -- the opposite of a boolean: an error is the answer
-abbrev pub opposite : Result Bool ErrorKind → Value
-opposite (Ok b) = values.Bool (not b)
-opposite (Err e) = values.Error e
+abbrev pub opposite_of : Result Bool ErrorKind → Value
+opposite_of (Ok b) = values.Bool (not b)
+opposite_of (Err e) = values.Error e
 
 -- NOT: the opposite of the boolean that a value counts as
 abbrev pub not_of : Value → Value
-not_of v = opposite (truth_of v)
+not_of v = opposite_of (truth_of v)

@@ -13,9 +13,12 @@ abbrev pub number_argument : ℕ → Arg
 number_argument n = Direct (values.Num (pos n))
 
 -- a text stands in another at a place: so many characters less one stand in front of it
-abbrev pub StandsAt : List ℕ → List ℕ → ℕ → Type 0
-StandsAt p t place = (front : List ℕ) × (back : List ℕ) × IsUtf8 front × (t ≡ front ++ (p ++ back)) × (length (chars front) + 1 ≡ place)
+abbrev pub StandsIn : List ℕ → List ℕ → ℕ → Type 0
+StandsIn p t place =
+    (front : List ℕ) × (back : List ℕ) × IsUtf8 front
+    × (t ≡ front ++ (p ++ back)) × (length (chars front) + 1 ≡ place)
 
 -- the least place, and not under n, at which a text stands in another
 abbrev pub IsLeastPlace : List ℕ → List ℕ → ℕ → ℕ → Type 0
-IsLeastPlace p t n place = (n ≤ place) × StandsAt p t place × ((k : ℕ) → n ≤ k → k < place → ¬ (StandsAt p t k))
+IsLeastPlace p t n place =
+    (n ≤ place) × StandsIn p t place × ((k : ℕ) → n ≤ k → k < place → ¬ (StandsIn p t k))

@@ -1,10 +1,10 @@
--- What was seen of booleans.
+-- For the crate's own functions: what was seen of booleans.
 use Rattle.std.specs.Prelude.{Bool, true, false, ◌&&◌, ◌||◌}
 use Rattle.functions.specs.declared.truths.Truths.{Truths}
 
 -- nothing seen
-abbrev pub NONE_SEEN : Truths
-NONE_SEEN = record { some = false; all = true; any = false }
+abbrev pub NO_TRUTHS : Truths
+NO_TRUTHS = record { some = false; all = true; any = false }
 
 -- with one boolean more
 abbrev pub with_truth : Truths → Bool → Truths

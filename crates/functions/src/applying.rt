@@ -5,7 +5,7 @@ ghost use Rattle.functions.specs.Inputs.{AreInputs};
 
 use super::arguments::Arg;
 use super::functions::Function;
-use super::kinds::{self, Kind};
+use super::kinds::{self, ValueKind};
 use super::{areas, arithmetic, counting, gathering, logic, text_parts, text_search, text_writing};
 use cell_values::{ErrorKind, Memory, Value};
 use std::alloc::Global;
@@ -26,12 +26,12 @@ impl Function {
             Function::And => Ok(logic::and(args)),
             Function::Or => Ok(logic::or(args)),
             Function::Not => Ok(logic::not(args)),
-            Function::IsNumber => Ok(kinds::ask(Kind::Number, args)),
-            Function::IsText => Ok(kinds::ask(Kind::Text, args)),
-            Function::IsLogical => Ok(kinds::ask(Kind::Logical, args)),
-            Function::IsError => Ok(kinds::ask(Kind::Error, args)),
-            Function::IsNa => Ok(kinds::ask(Kind::Na, args)),
-            Function::IsBlank => Ok(kinds::ask(Kind::Blank, args)),
+            Function::IsNumber => Ok(kinds::ask(ValueKind::Number, args)),
+            Function::IsText => Ok(kinds::ask(ValueKind::Text, args)),
+            Function::IsLogical => Ok(kinds::ask(ValueKind::Logical, args)),
+            Function::IsError => Ok(kinds::ask(ValueKind::Error, args)),
+            Function::IsNa => Ok(kinds::ask(ValueKind::Na, args)),
+            Function::IsBlank => Ok(kinds::ask(ValueKind::Blank, args)),
             Function::Na => Ok(Value::Error(ErrorKind::Na)),
             Function::Sum => Ok(gathering::sum(args)),
             Function::Product => Ok(gathering::product(args)),

@@ -1,7 +1,7 @@
 ghost use Rattle.std.specs.Prelude.{◌≡◌, ◌<◌, ◌≤◌, ◌+◌, ◌-◌, ◌*◌, ◌/◌, length, IfOk, unsigned_abs, slice_get};
 ghost use Rattle.cell_values.specs.Value.{final_of};
 ghost use Rattle.functions.specs.Inputs.{AreInputs};
-ghost use Rattle.functions.specs.Areas.{cell_at, area_cell, cell_of, index_of};
+ghost use Rattle.functions.specs.Areas.{value_at, area_cell, argument_cell, index_of};
 
 use super::arguments::{Arg, number_at};
 use cell_values::{ErrorKind, Memory, Value};
@@ -10,7 +10,7 @@ use cell_values::{ErrorKind, Memory, Value};
 fn answer_at(columns: usize, values: &[Value], row: usize, column: usize) -> Result<Value, Memory>
     requires row { row < length values.now / columns }
     requires column { column < columns }
-    ensures { IfOk result (λ answer. answer ≡ final_of (cell_at columns values.now row column)) }
+    ensures { IfOk result (λ answer. answer ≡ final_of (value_at columns values.now row column)) }
 {
     let value = values[row * columns + column].copy()?;
     Ok(value.or_zero())

@@ -3,6 +3,7 @@ ghost use Rattle.cell_values.specs.Coercion.{text_of, truth_of};
 ghost use Rattle.cell_values.specs.Value.{number_of};
 ghost use Rattle.functions.specs.Inputs.{argument, argument_or, AreInputs};
 
+use super::limits::{MOST_ARGUMENTS, MOST_VALUES};
 use cell_values::{ErrorKind, Memory, Text, Value, to_bool, to_number, to_text};
 use std::alloc::Global;
 use std::marker::Model;
@@ -61,7 +62,7 @@ impl Arg {
             Arg::Direct(_) => true,
             Arg::Cells { columns, values } => {
                 let count = values.as_slice().len();
-                *columns > 0 && count > 0 && count <= 65_536 && count % *columns as usize == 0
+                *columns > 0 && count > 0 && count <= MOST_VALUES && count % *columns as usize == 0
             }
         }
     }
@@ -71,7 +72,7 @@ impl Arg {
 pub fn are_in_form(args: &[Arg]) -> bool
     ensures { IsTrue result ↔ AreInputs args.now }
 {
-    args.len() <= 255 && args.iter().all(Arg::is_in_form)
+    args.len() <= usize::from(MOST_ARGUMENTS) && args.iter().all(Arg::is_in_form)
 }
 
 /// The number that the argument at a place counts as.

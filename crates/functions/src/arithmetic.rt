@@ -1,18 +1,17 @@
-ghost use Rattle.std.specs.Prelude.{◌≡◌, ◌≢◌, ◌-ℤ◌, ◌*ℤ◌, pos, unsigned_abs, int_div, int_rem};
+ghost use Rattle.std.specs.Prelude.{◌≡◌, ◌≢◌, ◌-ℤ◌, ◌*ℤ◌, pos, unsigned_abs};
 ghost use Rattle.cell_values.specs.Value.{within_magnitude};
 ghost use Rattle.functions.specs.Inputs.{argument};
 ghost use Rattle.functions.specs.Arithmetic.{abs_of, sign_of, mod_of, quotient_of, power_of, sign, signs_differ, is_rounded_up, modulus, whole_quotient, floor};
 
 use super::arguments::{Arg, number_at};
-use super::numbers::within;
 use super::powers::power_value;
-use cell_values::{ErrorKind, Value};
+use cell_values::{ErrorKind, Value, number_value, quotient_toward_zero, remainder};
 
 /// The magnitude of a number.
 fn magnitude(n: i64) -> Value
     ensures { result ≡ within_magnitude (pos (unsigned_abs n)) }
 {
-    within(i128::from(n.unsigned_abs()))
+    number_value(i128::from(n.unsigned_abs()))
 }
 
 /// -1, 0 or 1.
@@ -29,28 +28,12 @@ fn do_signs_differ(n: i64, k: i64) -> bool
     if n < 0 { k > 0 } else { k < 0 }
 }
 
-/// What a division toward zero leaves.
-fn rest(n: i64, k: i64) -> i128
-    requires { k ≢ pos 0 }
-    ensures { result ≡ int_rem n k }
-{
-    i128::from(n) % i128::from(k)
-}
-
-/// The quotient toward zero.
-fn truncated(n: i64, k: i64) -> i128
-    requires { k ≢ pos 0 }
-    ensures { result ≡ int_div n k }
-{
-    i128::from(n) / i128::from(k)
-}
-
 /// Whether the quotient toward zero is above the exact one.
 fn is_quotient_rounded_up(n: i64, k: i64) -> bool
     requires { k ≢ pos 0 }
     ensures { result ≡ is_rounded_up n k }
 {
-    rest(n, k) != 0 && do_signs_differ(n, k)
+    remainder(n, k) != 0 && do_signs_differ(n, k)
 }
 
 /// What the floor of a division leaves.
@@ -59,9 +42,9 @@ fn floor_rest(n: i64, k: i64) -> i128
     ensures { result ≡ n -ℤ k *ℤ floor n k }
 {
     if is_quotient_rounded_up(n, k) {
-        rest(n, k) + i128::from(k)
+        remainder(n, k) + i128::from(k)
     } else {
-        rest(n, k)
+        remainder(n, k)
     }
 }
 
@@ -72,7 +55,7 @@ fn floor_modulus(n: i64, k: i64) -> Value
     if k == 0 {
         Value::Error(ErrorKind::Div0)
     } else {
-        within(floor_rest(n, k))
+        number_value(floor_rest(n, k))
     }
 }
 
@@ -83,7 +66,7 @@ fn quotient_value(n: i64, k: i64) -> Value
     if k == 0 {
         Value::Error(ErrorKind::Div0)
     } else {
-        within(truncated(n, k))
+        number_value(quotient_toward_zero(n, k))
     }
 }
 

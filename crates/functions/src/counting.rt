@@ -1,7 +1,7 @@
 ghost use Rattle.std.specs.Prelude.{◌≡◌, ◌<◌, ◌^◌};
 ghost use Rattle.std.specs.List.{sum_by};
 ghost use Rattle.functions.specs.Inputs.{AreInputs};
-ghost use Rattle.functions.specs.Gathering.{numbers_counted, values_counted, count_of, counta_of};
+ghost use Rattle.functions.specs.Gathering.{number_count, value_count, count_of, counta_of};
 
 use super::arguments::Arg;
 use super::kinds::{is_blank, is_number};
@@ -9,7 +9,7 @@ use cell_values::{Value, to_number};
 
 /// How many numbers an argument has.
 fn numbers_in(arg: &Arg) -> usize
-    ensures { result ≡ numbers_counted arg.now }
+    ensures { result ≡ number_count arg.now }
 {
     match arg {
         Arg::Direct(value) => { if to_number(value).is_ok() { 1 } else { 0 } }
@@ -23,7 +23,7 @@ fn numbers_in(arg: &Arg) -> usize
 
 /// How many values an argument has.
 fn values_in(arg: &Arg) -> usize
-    ensures { result ≡ values_counted arg.now }
+    ensures { result ≡ value_count arg.now }
 {
     match arg {
         Arg::Direct(_) => 1,
@@ -37,16 +37,16 @@ fn values_in(arg: &Arg) -> usize
 
 /// How many numbers the arguments have.
 fn all_numbers_in(args: &[Arg]) -> usize
-    requires { sum_by numbers_counted args.now < 2 ^ 63 }
-    ensures { result ≡ sum_by numbers_counted args.now }
+    requires { sum_by number_count args.now < 2 ^ 63 }
+    ensures { result ≡ sum_by number_count args.now }
 {
     args.iter().map(numbers_in).sum()
 }
 
 /// How many values the arguments have.
 fn all_values_in(args: &[Arg]) -> usize
-    requires { sum_by values_counted args.now < 2 ^ 63 }
-    ensures { result ≡ sum_by values_counted args.now }
+    requires { sum_by value_count args.now < 2 ^ 63 }
+    ensures { result ≡ sum_by value_count args.now }
 {
     args.iter().map(values_in).sum()
 }

@@ -2,6 +2,8 @@ ghost use Rattle.std.specs.Prelude.{◌≡◌};
 ghost use Rattle.std.specs.Option.{option_map};
 ghost use Rattle.functions.specs.Functions.{function_named, arity_of};
 
+use super::limits::MOST_ARGUMENTS;
+
 /// The functions of formulas.
 #[derive(Clone, Copy, Debug, PartialEq, Eq)]
 pub enum Function {
@@ -172,7 +174,7 @@ impl Function {
             | Function::Max
             | Function::Count
             | Function::CountA
-            | Function::Concatenate => (1, 255),
+            | Function::Concatenate => (1, MOST_ARGUMENTS),
             Function::Not
             | Function::IsNumber
             | Function::IsText
@@ -187,7 +189,7 @@ impl Function {
             | Function::Lower
             | Function::Trim
             | Function::Value => (1, 1),
-            Function::Choose => (2, 255),
+            Function::Choose => (2, MOST_ARGUMENTS),
             Function::Index | Function::Mid => (3, 3),
             Function::Left | Function::Right => (1, 2),
         }

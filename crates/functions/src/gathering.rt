@@ -1,12 +1,12 @@
 ghost use Rattle.std.specs.Prelude.{◌≡◌, ◌+◌, ◌*◌, ◌≤◌, ◌^◌, length, IfOk};
 ghost use Rattle.std.specs.List.{filter_map};
-ghost use Rattle.functions.specs.Inputs.{all_ok, fold_of_values, AreInputs};
+ghost use Rattle.functions.specs.Folds.{fold_of_values};
+ghost use Rattle.functions.specs.Inputs.{all_ok, AreInputs};
 ghost use Rattle.functions.specs.Gathering.{number_in_cell, numbers_of, numbers_or_error, sum_of, product_of, min_of, max_of};
 
 use super::arguments::Arg;
-use super::numbers::within;
 use super::tallies::{Greatest, Least, Product, Sum, Tally};
-use cell_values::{ErrorKind, Value, to_number};
+use cell_values::{ErrorKind, Value, number_value, to_number};
 
 /// A tally with the numbers of an area.
 fn tally_cells<T: Tally>(start: T, values: &[Value]) -> Result<T, ErrorKind>
@@ -53,7 +53,7 @@ pub fn sum(args: &[Arg]) -> Value
     ensures { result ≡ sum_of args.now }
 {
     match tally(Sum(0), args) {
-        Ok(sum) => within(sum.0),
+        Ok(sum) => number_value(sum.0),
         Err(kind) => Value::Error(kind),
     }
 }

@@ -8,7 +8,7 @@ use cell_values::{ErrorKind, Value};
 
 /// What a value can be asked for.
 #[derive(Clone, Copy)]
-pub enum Kind {
+pub enum ValueKind {
     Number,
     Text,
     Logical,
@@ -17,7 +17,7 @@ pub enum Kind {
     Blank,
 }
 
-impl Kind {
+impl ValueKind {
     ghost use Rattle.std.specs.Prelude.{◌≡◌};
     ghost use Rattle.functions.specs.AskedKinds.{is_of};
 
@@ -26,18 +26,18 @@ impl Kind {
         ensures { result ≡ is_of self value.now }
     {
         match self {
-            Kind::Number => is_number(value),
-            Kind::Text => is_text(value),
-            Kind::Logical => is_logical(value),
-            Kind::Error => is_error(value),
-            Kind::Na => is_na(value),
-            Kind::Blank => is_blank(value),
+            ValueKind::Number => is_number(value),
+            ValueKind::Text => is_text(value),
+            ValueKind::Logical => is_logical(value),
+            ValueKind::Error => is_error(value),
+            ValueKind::Na => is_na(value),
+            ValueKind::Blank => is_blank(value),
         }
     }
 }
 
 /// Whether the argument is of a kind.
-pub fn ask(kind: Kind, args: &[Arg]) -> Value
+pub fn ask(kind: ValueKind, args: &[Arg]) -> Value
     ensures { result ≡ Value.Bool (is_of kind (argument args.now 0)) }
 {
     Value::Bool(match args.first() {

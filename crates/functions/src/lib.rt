@@ -10,8 +10,8 @@ mod functions;
 mod gathering;
 mod kinds;
 mod laws;
+mod limits;
 mod logic;
-mod numbers;
 mod powers;
 mod tallies;
 #[cfg(test)]
@@ -32,6 +32,7 @@ pub use laws::{
     a_modulus_is_what_the_floor_leaves, a_quotient_leaves_less_than_the_divisor,
     a_sum_is_the_sum_of_its_parts,
 };
+pub use limits::{MOST_ARGUMENTS, MOST_VALUES};
 pub use text_laws::{
     find_gives_the_least_place, left_and_mid_join_to_the_text, trim_is_idempotent,
 };

@@ -1,10 +1,11 @@
 ghost use Rattle.std.specs.Prelude.{◌≡◌};
 ghost use Rattle.std.specs.List.{filter_map, flat_map};
 ghost use Rattle.cell_values.specs.Coercion.{truth_of};
-ghost use Rattle.functions.specs.Inputs.{all_ok, fold_of_values};
-ghost use Rattle.functions.specs.Logic.{truth_in_cell, truths_of, truths, opposite, and_of, or_of, not_of};
+ghost use Rattle.functions.specs.Folds.{fold_of_values};
+ghost use Rattle.functions.specs.Inputs.{all_ok};
+ghost use Rattle.functions.specs.Logic.{truth_in_cell, truths_of, truths, opposite_of, and_of, or_of, not_of};
 ghost use Rattle.functions.specs.Inputs.{argument};
-ghost use Rattle.functions.specs.Truths.{with_truth, NONE_SEEN};
+ghost use Rattle.functions.specs.Truths.{with_truth, NO_TRUTHS};
 
 use super::arguments::{Arg, truth_at};
 use super::truths::Truths;
@@ -31,7 +32,7 @@ fn see_cells(seen: Truths, values: &[Value]) -> Result<Truths, ErrorKind>
 
 /// What stands among the booleans of all arguments.
 fn see(args: &[Arg]) -> Result<Truths, ErrorKind>
-    ensures { result ≡ fold_of_values with_truth NONE_SEEN (truths args.now) }
+    ensures { result ≡ fold_of_values with_truth NO_TRUTHS (truths args.now) }
 {
     let mut seen = Truths::none();
     let mut left = args;
@@ -69,7 +70,7 @@ pub fn or(args: &[Arg]) -> Value
 
 /// The opposite of a boolean.
 fn opposite(truth: Result<bool, ErrorKind>) -> Value
-    ensures { result ≡ opposite truth }
+    ensures { result ≡ opposite_of truth }
 {
     match truth {
         Ok(b) => Value::Bool(!b),

@@ -2,8 +2,7 @@ ghost use Rattle.std.specs.Prelude.{◌≡◌, ◌≤◌, pos, unsigned_abs};
 ghost use Rattle.cell_values.specs.Value.{within_magnitude};
 ghost use Rattle.functions.specs.Arithmetic.{exact_power, power};
 
-use super::numbers::{exact_product, is_within};
-use cell_values::{ErrorKind, Value};
+use cell_values::{ErrorKind, Value, exact_product, is_in_magnitude};
 
 /// A power of a number that isn't -1, 0 or 1.
 fn large_power(n: i64, k: u64) -> Value
@@ -14,7 +13,7 @@ fn large_power(n: i64, k: u64) -> Value
     let mut factors = 0;
     while factors < k {
         let next = exact_product(n, power);
-        if !is_within(next) {
+        if !is_in_magnitude(next) {
             return Value::Error(ErrorKind::Num);
         }
         power = next as i64;

@@ -1,5 +1,4 @@
-use super::numbers::{exact_product, is_within};
-use cell_values::{ErrorKind, Value};
+use cell_values::{ErrorKind, Value, exact_product, is_in_magnitude};
 
 /// What is kept of the numbers that were met so far.
 pub trait Tally: Drop {
@@ -91,7 +90,7 @@ impl Product {
     fn of(n: i128) -> Product
         ensures { result ≡ product_so_far n }
     {
-        if is_within(n) {
+        if is_in_magnitude(n) {
             Product::Within(n as i64)
         } else {
             Product::Beyond

@@ -221,6 +221,36 @@ fn a_name_is_one_of_forty_in_upper_case(rt: HostRuntime) -> Result<(), Fail> {
 }
 
 #[test]
+fn a_function_takes_areas_by_the_place_of_its_argument(rt: HostRuntime) -> Result<(), Fail> {
+    for (name, first, second) in [
+        ("SUM", true, true),
+        ("OR", true, true),
+        ("INDEX", true, false),
+        ("LEN", false, false),
+        ("IF", false, false),
+    ] {
+        let function = Function::of(name).ok_or("no function")?;
+        assert_eq!(rt; function.takes_area(0), first, "{name}");
+        assert_eq!(rt; function.takes_area(1), second, "{name}");
+    }
+    for (name, count, takes) in [
+        ("TRUE", 0, true),
+        ("TRUE", 1, false),
+        ("FIND", 1, false),
+        ("FIND", 2, true),
+        ("FIND", 3, true),
+        ("FIND", 4, false),
+        ("SUM", 0, false),
+        ("SUM", 255, true),
+        ("SUM", 256, false),
+    ] {
+        let function = Function::of(name).ok_or("no function")?;
+        assert_eq!(rt; function.takes_count(count), takes, "{name} {count}");
+    }
+    Ok(())
+}
+
+#[test]
 fn an_area_out_of_form_is_told(rt: HostRuntime) -> Result<(), Fail> {
     for (columns, words) in [(0, "1"), (2, "1"), (3, "1;2;3;4")] {
         let area = area_of_words(rt.alloc(), columns, words)?;

@@ -6,7 +6,7 @@ ghost use Rattle.cell_values.specs.Text.{is_text};
 ghost use Rattle.cell_values.specs.declared.errors.ErrorKind.TheVariants as errors;
 ghost use Rattle.cell_values.specs.declared.values.Value.TheVariants as values;
 ghost use Rattle.functions.specs.declared.arguments.Arg.TheVariants.{Direct};
-ghost use Rattle.functions.specs.TextLaws.{text_argument, number_argument, StandsAt, IsLeastPlace};
+ghost use Rattle.functions.specs.TextLaws.{text_argument, number_argument, StandsIn, IsLeastPlace};
 ghost use Rattle.functions.specs.Texts.{left_of, mid_of, trim_of, find_of};
 
 /// LEFT gives the front of a text, and MID from there on the rest.
@@ -30,5 +30,5 @@ pub fn find_gives_the_least_place()
         ≡ values.Num (pos place) → IsLeastPlace p t n place }
     ensures none { (p t : List ℕ) (n place : ℕ) → IsTrue (is_text t) → 0 < n
         → find_of (text_argument p ∷ text_argument t ∷ number_argument n ∷ [])
-        ≡ values.Error errors.Value → n ≤ place → ¬ (StandsAt p t place) }
+        ≡ values.Error errors.Value → n ≤ place → ¬ (StandsIn p t place) }
 {}

@@ -5,12 +5,12 @@ ghost use Rattle.std.specs.List.{list_any, starts_with};
 ghost use Rattle.std.specs.String.{string_bytes};
 ghost use Rattle.cell_values.specs.Coercion.{text_of};
 ghost use Rattle.functions.specs.Inputs.{value_of};
-ghost use Rattle.functions.specs.Texts.{all_texts, concatenate_of, exact_of, found_behind, find_place, find_of, value_function_of};
+ghost use Rattle.functions.specs.Texts.{all_texts, concatenate_of, exact_of, offset_of, find_place, find_of, value_function_of};
 
 use super::arguments::{Arg, number_at, number_or, text_at};
 use super::text_answers::text_value;
 use super::text_parts::{before_place, count_characters, without_first};
-use cell_values::{ErrorKind, Memory, Text, Value, to_text};
+use cell_values::{ErrorKind, LONGEST_TEXT, Memory, Text, Value, to_text};
 use std::alloc::Global;
 
 /// CONCATENATE.
@@ -36,9 +36,7 @@ fn joined(alloc: Global, args: &[Arg]) -> Result<Result<String, ErrorKind>, Memo
             Ok(text) => text,
             Err(kind) => return Ok(Err(kind)),
         };
-        if all.push_str(text.as_str()).is_err() {
-            return Err(Memory);
-        }
+        all.push_str(text.as_str())?;
     }
     Ok(Ok(all))
 }
@@ -95,8 +93,8 @@ fn find_place(pattern: &Text, text: &Text, place: i64) -> Value
 
 /// The least number of characters, and not under another, behind which a text stands in another.
 fn found_behind(pattern: &Text, text: &Text, least: usize) -> Option<usize>
-    ensures found { result ≡ found_behind pattern.now text.now least }
-    ensures bound { IfSome result (λ before. before ≤ 32767) }
+    ensures found { result ≡ offset_of pattern.now text.now least }
+    ensures bound { IfSome result (λ before. before ≤ LONGEST_TEXT) }
 {
     let mut rest = without_first(text.as_str(), least).chars();
     for before in least..count_characters(text.as_str()) + 1 {

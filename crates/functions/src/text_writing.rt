@@ -4,16 +4,14 @@ ghost use Rattle.std.specs.List.{repeat};
 ghost use Rattle.std.specs.Str.{chars, encode_utf8_all};
 ghost use Rattle.std.specs.String.{string_bytes};
 ghost use Rattle.cell_values.specs.Text.{if_short};
-ghost use Rattle.functions.specs.Texts.{text_or_fault, in_upper_case, in_lower_case, upper_of, lower_of, rept_part, rept_of, single_spacing_of, trim_of, character_behind_space};
+ghost use Rattle.functions.specs.TextSteps.{character_behind_space};
+ghost use Rattle.functions.specs.Texts.{text_or_fault, in_upper_case, in_lower_case, upper_of, lower_of, rept_part, rept_of, single_spacing_of, trim_of};
 
 use super::arguments::{Arg, number_at, text_at};
 use super::text_answers::text_value;
 use super::text_parts::{amount_of, count_characters};
-use cell_values::{ErrorKind, Memory, Text, Value};
+use cell_values::{ErrorKind, LONGEST_TEXT, Memory, Text, Value};
 use std::alloc::{AllocError, Global};
-
-/// The greatest number of characters of a text.
-const MOST_CHARACTERS: usize = 32_767;
 
 /// UPPER.
 pub(crate) fn upper(alloc: Global, args: &[Arg]) -> Result<Value, Memory>
@@ -29,10 +27,8 @@ pub(crate) fn upper(alloc: Global, args: &[Arg]) -> Result<Value, Memory>
 fn upper_text(alloc: Global, text: &Text) -> Result<Value, Memory>
     ensures { IfOk result (λ value. value ≡ Value.Text (in_upper_case text.now)) }
 {
-    match to_upper_case(alloc, text.as_str()) {
-        Ok(upper) => text_value(alloc, upper.as_str()),
-        Err(_) => Err(Memory),
-    }
+    let upper = to_upper_case(alloc, text.as_str())?;
+    text_value(alloc, upper.as_str())
 }
 
 /// The characters with ASCII letters in upper case.
@@ -56,10 +52,8 @@ pub(crate) fn lower(alloc: Global, args: &[Arg]) -> Result<Value, Memory>
 fn lower_text(alloc: Global, text: &Text) -> Result<Value, Memory>
     ensures { IfOk result (λ value. value ≡ Value.Text (in_lower_case text.now)) }
 {
-    match to_lower_case(alloc, text.as_str()) {
-        Ok(lower) => text_value(alloc, lower.as_str()),
-        Err(_) => Err(Memory),
-    }
+    let lower = to_lower_case(alloc, text.as_str())?;
+    text_value(alloc, lower.as_str())
 }
 
 /// The characters with ASCII letters in lower case.
@@ -98,13 +92,11 @@ fn repeated_text(alloc: Global, text: &Text, times: usize) -> Result<Value, Memo
     if length == 0 {
         return text_value(alloc, "");
     }
-    if times > MOST_CHARACTERS / length {
+    if times > LONGEST_TEXT / length {
         return Ok(Value::Error(ErrorKind::Value));
     }
-    match repeated(alloc, text.as_str(), times) {
-        Ok(all) => text_value(alloc, all.as_str()),
-        Err(_) => Err(Memory),
-    }
+    let all = repeated(alloc, text.as_str(), times)?;
+    text_value(alloc, all.as_str())
 }
 
 /// Characters so many times.
@@ -133,10 +125,8 @@ fn trim_text(alloc: Global, text: &Text) -> Result<Value, Memory>
     ensures { IfOk result (λ value. value ≡ Value.Text
         (encode_utf8_all (single_spacing_of (chars text.now)))) }
 {
-    match tidied(alloc, text.as_str()) {
-        Ok(tidy) => text_value(alloc, tidy.as_str()),
-        Err(_) => Err(Memory),
-    }
+    let tidy = tidied(alloc, text.as_str())?;
+    text_value(alloc, tidy.as_str())
 }
 
 /// The characters with no spaces at the ends and no runs of spaces.

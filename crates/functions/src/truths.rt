@@ -10,11 +10,11 @@ pub struct Truths {
 
 impl Truths {
     ghost use Rattle.std.specs.Prelude.{◌≡◌};
-    ghost use Rattle.functions.specs.Truths.{with_truth, NONE_SEEN};
+    ghost use Rattle.functions.specs.Truths.{with_truth, NO_TRUTHS};
 
     /// Nothing seen.
     pub fn none() -> Truths
-        ensures { result ≡ NONE_SEEN }
+        ensures { result ≡ NO_TRUTHS }
     {
         Truths {
             some: false,

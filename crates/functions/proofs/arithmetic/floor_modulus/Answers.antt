@@ -12,5 +12,5 @@ returns-else-k-eq0 c =
     let other : c.args.k ≢ pos 0 = search rules in
     let rest = simp to_z-of_z at c.floor_rest.ensures in
     let whole : SFits w128 c.floor_rest.result = search rules in
-    let inside = simp to_z-of_z at c.within.ensures in
+    let inside = simp to_z-of_z at c.number_value.ensures in
     inside ∙ ap within_magnitude rest ∙ sym (modulus_is c.args.n c.args.k other)

@@ -8,7 +8,7 @@ returns-then-is_quotient_rounded_up c =
     let n : SFits w64 c.args.n = c.ranges.n in
     let k : SFits w64 c.args.k = c.ranges.k in
     let up = simp to_z-of_z at c.is_quotient_rounded_up.ensures in
-    let rest = simp to_z-of_z at c.rest.ensures in
+    let rest = simp to_z-of_z at c.remainder.ensures in
     let left = rest_of_floor c.args.n c.args.k (sym up ∙ c.if-is_quotient_rounded_up.true) in
     grind (arith, ints, left, rest, c.from.ensures)
 
@@ -17,6 +17,6 @@ returns-else-is_quotient_rounded_up c =
     let n : SFits w64 c.args.n = c.ranges.n in
     let k : SFits w64 c.args.k = c.ranges.k in
     let up = simp to_z-of_z at c.is_quotient_rounded_up.ensures in
-    let rest = simp to_z-of_z at c.rest-else-is_quotient_rounded_up.ensures in
+    let rest = simp to_z-of_z at c.remainder-else-is_quotient_rounded_up.ensures in
     let left = rest_of_quotient c.args.n c.args.k (sym up ∙ c.if-is_quotient_rounded_up.false) in
     omega (arith, ints)

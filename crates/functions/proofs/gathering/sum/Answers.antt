@@ -9,5 +9,5 @@ use Rattle.functions.proofs.gathering.sum.Goals as goal
 pub returns-in-Ok : goal.returns-in-Ok
 returns-in-Ok c =
     let fits : SFits w128 c.in-Ok.sum.0 = search rules in
-    let shown = simp to_z-of_z at c.within.ensures in
+    let shown = simp to_z-of_z at c.number_value.ensures in
     shown ∙ summed (numbers_or_error c.args.args.now) c.in-Ok.sum (sym c.tally.ensures ∙ c.in-Ok.is)

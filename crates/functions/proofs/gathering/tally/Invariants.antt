@@ -1,5 +1,6 @@
 use Rattle.std.proofs.Common.{◌≡◌, ◌+◌, ◌*◌, ◌≤◌, ◌^◌, length, All}
-use Rattle.functions.specs.Inputs.{fold_of_values, IsInput}
+use Rattle.functions.specs.Folds.{fold_of_values}
+use Rattle.functions.specs.Inputs.{IsInput}
 use Rattle.functions.specs.Gathering.{numbers_or_error}
 use Rattle.functions.proofs.gathering.tally.Given as goal
 

@@ -1,6 +1,7 @@
 use Rattle.std.proofs.Common.{◌≡◌, length}
 use Rattle.std.specs.List.{filter_map}
-use Rattle.functions.specs.Inputs.{all_ok, fold_of_values}
+use Rattle.functions.specs.Folds.{fold_of_values}
+use Rattle.functions.specs.Inputs.{all_ok}
 use Rattle.functions.specs.Logic.{truth_in_cell}
 use Rattle.functions.specs.Truths.{with_truth}
 use Rattle.functions.proofs.logic.see_cells.Given as goal

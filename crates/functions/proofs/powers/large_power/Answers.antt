@@ -2,12 +2,12 @@ use Rattle.std.proofs.Common.{suc, ◌-◌, ◌*ℤ◌, sym, ap, ◌∙◌, rule
 use mir.Syntax.{w128}
 use mir.Val.{SFits}
 use Rattle.std.proofs.lemmas.Int.{to_z-of_z}
-use Rattle.functions.specs.Numbers.{is_within}
+use Rattle.cell_values.specs.Value.{is_in_magnitude}
 use Rattle.functions.proofs.PowerLaws.{power_beyond}
 use Rattle.functions.proofs.powers.large_power.Goals as goal
 
-pub returns-then-not-is_within : goal.returns-then-not-is_within
-returns-then-not-is_within c =
+pub returns-then-not-is_in_magnitude : goal.returns-then-not-is_in_magnitude
+returns-then-not-is_in_magnitude c =
     let n = c.args.n in
     let i = c.loop-factors.factors in
     let fits_n : SFits w64 c.args.n = c.ranges.n in
@@ -15,6 +15,6 @@ returns-then-not-is_within c =
     let fits_next : SFits w128 c.exact_product-next.result = search rules in
     let next = simp to_z-of_z at c.exact_product-next.ensures in
     let kept = simp to_z-of_z at c.loop-factors.invariant.power in
-    let tested = simp to_z-of_z at c.is_within.ensures in
+    let tested = simp to_z-of_z at c.is_in_magnitude.ensures in
     power_beyond n (suc i) (c.args.k - suc i) c.args.k (omega arith) (omega arith)
-    (ap (λ k. is_within k) (sym (next ∙ ap (λ p. n *ℤ p) kept)) ∙ sym tested ∙ c.if-not-is_within.true)
+    (ap (λ k. is_in_magnitude k) (sym (next ∙ ap (λ p. n *ℤ p) kept)) ∙ sym tested ∙ c.if-not-is_in_magnitude.true)

@@ -1,12 +1,12 @@
 use Rattle.std.proofs.Common.{◌≡◌, ◌-◌, ◌≤◌, true}
 use Rattle.functions.specs.Arithmetic.{exact_power}
-use Rattle.functions.specs.Numbers.{is_within}
+use Rattle.cell_values.specs.Value.{is_in_magnitude}
 use Rattle.functions.proofs.powers.large_power.Given as goal
 
 abbrev pub invariant-loop-factors : goal.invariant-loop-factors
 invariant-loop-factors l = record {
   power : l.power ≡ exact_power l.n l.factors;
-  within : is_within (exact_power l.n l.factors) ≡ true;
+  within : is_in_magnitude (exact_power l.n l.factors) ≡ true;
   few : l.factors ≤ l.k;
 }
 

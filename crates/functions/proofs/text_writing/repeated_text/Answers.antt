@@ -1,6 +1,7 @@
 use Rattle.std.proofs.Common.{◌≡◌, ◌∙◌, ◌<◌, ◌/◌, length, ap, sym, arith, subst, ℕ}
 use Rattle.std.specs.List.{repeat}
 use Rattle.std.specs.Str.{chars}
+use Rattle.cell_values.specs.declared.limits.TheConstants.{LONGEST_TEXT}
 use Rattle.cell_values.specs.Text.{if_short}
 use Rattle.cell_values.specs.Word.{text_of_bytes}
 use Rattle.functions.specs.Texts.{text_or_fault}
@@ -16,12 +17,12 @@ returns-then-length-eq0 c =
 pub returns-then-times-length : goal.returns-then-times-length
 returns-then-times-length c =
     let count : c.count_characters-length.result ≡ length (chars c.args.text.now) = c.count_characters-length.ensures ∙ ap (λ s. length (chars s)) c.as_str.ensures.text in
-    let often : 32767 / length (chars c.args.text.now) < c.args.times = subst (λ (k : ℕ). 32767 / k < c.args.times) count c.if-times-length.true in
+    let often : LONGEST_TEXT / length (chars c.args.text.now) < c.args.times = subst (λ (k : ℕ). LONGEST_TEXT / k < c.args.times) count c.if-times-length.true in
     ap text_or_fault (repeat_too_long c.args.times c.args.text.now c.as_str.ensures.valid (omega (arith, count)) often)
 
-pub returns-in-Ok : goal.returns-in-Ok
-returns-in-Ok c =
-    let same : c.as_str-in-Ok.result.now ≡ repeat c.args.times c.args.text.now =
-    c.as_str-in-Ok.ensures.value ∙ (c.in-Ok.ensures ∙ ap (repeat c.args.times) c.as_str-2.ensures.text) in
-    answers c.text_value-in-Ok.result (if_short (repeat c.args.times c.args.text.now)) _ c.text_value-in-Ok.ensures
+pub returns : goal.returns
+returns c =
+    let same : c.as_str-3.result.now ≡ repeat c.args.times c.args.text.now =
+    c.as_str-3.ensures.value ∙ (c.in_ok-all.ensures ∙ ap (repeat c.args.times) c.as_str-2.ensures.text) in
+    answers c.text_value-2.result (if_short (repeat c.args.times c.args.text.now)) _ c.text_value-2.ensures
     (ap text_of_bytes same ∙ repeat_if_short c.args.times c.args.text.now c.as_str.ensures.valid)

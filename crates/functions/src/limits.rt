@@ -1,0 +1,6 @@
+//! The limits of calls.
+
+/// The greatest number of arguments of a call.
+pub const MOST_ARGUMENTS: u16 = 255;
+/// The greatest number of values of an area.
+pub const MOST_VALUES: usize = 65_536;
