@@ -41,9 +41,9 @@ pub record IsTooDeep (text : List ℕ) : Type 0 where
 
 -- some formula, without those limits, begins with these bytes
 abbrev pub IsViable : List ℕ → Type 0
-IsViable front = (rest : List ℕ) × (written : List Token) × (tree : Node) × IsUnlimitedFormula (front ++ rest) written tree
+IsViable prefix = (rest : List ℕ) × (written : List Token) × (tree : Node) × IsUnlimitedFormula (prefix ++ rest) written tree
 
--- the longest part at the front of a text with which some formula begins has this length
+-- the longest viable prefix of a text, with which some formula begins, has this length
 pub record IsSyntaxPlace (text : List ℕ) (place : ℕ) : Type 0 where
   pub within : place ≤ length text
   pub viable : IsViable (take place text)

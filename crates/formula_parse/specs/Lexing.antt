@@ -50,7 +50,7 @@ all_errors = errors.Null ∷ errors.Div0 ∷ errors.Value ∷ errors.Ref ∷ err
 abbrev pub begins_with : List ℕ → List ℕ → Bool
 begins_with word text = bytes_eq (take (length word) (capitals text)) word
 
--- the error word at the front of a text
+-- the error word that a text begins with
 abbrev pub error_at : List ℕ → Option (Token × ℕ)
 error_at text = option_map (λ e. (tokens.Error e, length (error_word e))) (find (λ e. begins_with (error_word e) text) all_errors)
 
@@ -73,7 +73,7 @@ reference_found text (Some found) =
     then area_behind text found.0 found.1 (reference_at (drop (found.1 + 1) text))
     else (if passes_at is_word_byte text found.1 then None else Some (tokens.Reference found.0, found.1))
 
--- what letters, digits, `.` and `_` at the front of a text come to: a call, a boolean, or the front of a reference
+-- what the letters, digits, `.` and `_` that a text begins with come to: a call, a boolean, or the beginning of a reference
 abbrev pub word_found : List ℕ → List ℕ → Option (Token × ℕ)
 word_found text word =
     if passes_at (λ b. b == 40) text (length word) && is_name word then Some (tokens.Call (callee_named (capitals word)), length word + 1)
@@ -122,7 +122,7 @@ mark_at b rest =
     else (if b == 44 then Some (tokens.Comma, 1)
     else option_map (λ op. (tokens.Operator op, operator_len op)) (operator_at b rest)))
 
--- the token at the front of a text, and its length
+-- the token that a text begins with, and its length
 unfoldable pub token_at : List ℕ → Option (Token × ℕ)
 token_at [] = None
 token_at (b ∷ rest) =
@@ -131,7 +131,7 @@ token_at (b ∷ rest) =
     else (if b == 35 then error_at (b ∷ rest)
     else (if is_ascii_alphabetic b || b == 36 then word_at (b ∷ rest) else mark_at b rest)))
 
--- how many bytes two texts have in common at their front
+-- the length of the longest common prefix of two texts
 abbrev pub common_len : List ℕ → List ℕ → ℕ
 common_len [] text = 0
 common_len (c ∷ cs) [] = 0
@@ -183,7 +183,7 @@ abbrev pub corner_begun : List ℕ → Option (RefText × ℕ) → ℕ
 corner_begun text None = 0
 corner_begun text (Some found) = if passes_at (λ b. b == 58) text found.1 then found.1 + 1 + plain_begun (drop (found.1 + 1) text) else 0
 
--- the length of the sheet part at the front of a text, 0 where there is none
+-- the length of the sheet part that a text begins with, 0 where there is none
 abbrev pub sheet_len : List ℕ → Option (Option ℕ × List ℕ) → ℕ
 sheet_len text None = 0
 sheet_len text (Some found) = length text - length found.1

@@ -207,7 +207,7 @@ begun_behind phase text = if awaits_operand phase then begun_len text else 0
 abbrev pub tree_or_fault : Reader → Node → Result Node ParseFault
 tree_or_fault reader tree = if reader.has_wide_area then Err faults.BadRange else (if reader.has_large_number then Err faults.NumberTooLarge else Ok tree)
 
--- the spaces at the front of a text
+-- how many spaces a text begins with
 abbrev pub gap_len : List ℕ → ℕ
 gap_len text = length (take_while (λ b. b == 32) text)
 
@@ -226,17 +226,17 @@ abbrev pub read_on : Reader → ℕ → List ℕ → ℕ → Option Reader → R
 read_on reader place text len None = Answer (Err (faults.Syntax (place + begun_behind reader.phase text)))
 read_on reader place text len (Some next) = if is_too_deep next.frames then Answer (Err faults.TooDeep) else Onward next (place + len) (drop len text)
 
--- the token at the front of a text, where there is one
+-- the token that a text begins with, where there is one
 abbrev pub read_found : Reader → ℕ → List ℕ → Option (Token × ℕ) → Read
 read_found reader place text None = Answer (Err (faults.Syntax (place + begun_behind reader.phase text)))
 read_found reader place text (Some found) = read_on reader place text found.1 (reader_behind reader found.0)
 
--- the front of a text behind its spaces
+-- what a text comes to behind its spaces
 abbrev pub read_token : Reader → ℕ → List ℕ → Read
 read_token reader place [] = Answer (at_end reader place (tree_at_end reader.phase reader.frames))
 read_token reader place (b ∷ bs) = read_found reader place (b ∷ bs) (token_at (b ∷ bs))
 
--- the front of a text
+-- what a text comes to, up to behind its first token
 abbrev pub read_next : Reader → ℕ → List ℕ → Read
 read_next reader place text = read_token reader (place + gap_len text) (drop (gap_len text) text)
 

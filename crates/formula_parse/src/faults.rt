@@ -9,7 +9,7 @@ pub enum ParseFault {
     TooLong,
     /// More than 64 calls, or more than 128 calls and parentheses, are open at one place.
     TooDeep,
-    /// The text is no formula. The longest part at its front with which some formula begins has this
+    /// The text is no formula. Its longest viable prefix, with which some formula begins, has this
     /// many bytes.
     Syntax(usize),
     /// An area has over 65,536 cells.

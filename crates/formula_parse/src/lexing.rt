@@ -1,4 +1,4 @@
-//! The token at the front of a text.
+//! The token that a text begins with.
 
 mod begun;
 mod marks;
@@ -40,7 +40,7 @@ pub(crate) fn token_at(alloc: Global, text: &str, place: usize) -> Result<Found,
     }
 }
 
-/// The digits at the front, to their end.
+/// The digits that a text begins with, to their end.
 fn number(text: &[u8]) -> (Token, usize)
     ensures { Some result ≡ number_at text.now }
 {
@@ -48,7 +48,7 @@ fn number(text: &[u8]) -> (Token, usize)
     (Token::Number(value(&text[..len]) as i64), len)
 }
 
-/// How many digits stand at the front.
+/// How many digits a text begins with.
 fn digits_len(text: &[u8]) -> usize
     ensures { result ≡ length (take_while is_ascii_digit text.now) }
 {

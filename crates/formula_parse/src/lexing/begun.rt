@@ -19,7 +19,7 @@ const ROWS: u64 = 1_048_576;
 /// The number of sheets.
 const SHEETS: u64 = 64;
 
-/// How many bytes at the front of the text some operand begins with, where none stands there whole.
+/// The length of the prefix with which some operand begins, where none stands there whole.
 #[tactic(auto, unfolding(crate::specs::Lexing::begun_len))]
 pub(crate) fn begun_len(text: &[u8]) -> usize
     ensures value { result ≡ begun_len text.now }
@@ -92,7 +92,7 @@ fn reference_begun(text: &[u8]) -> usize
     sheet + plain_begun(&text[sheet..])
 }
 
-/// The length of the sheet part at the front, 0 where there is none.
+/// The length of the sheet part that a text begins with, 0 where there is none.
 fn sheet_len(text: &[u8]) -> usize
     ensures value { result ≡ sheet_len text.now (sheet_at (capitals text.now)) }
     ensures within { result ≤ length text.now }

@@ -19,7 +19,7 @@ use std::alloc::{AllocError, Global};
 /// The greatest length of a name.
 pub(super) const NAME: usize = 255;
 
-/// The error word at the front.
+/// The error word that a text begins with.
 pub(super) fn error(text: &[u8]) -> Found
     ensures { result ≡ error_at text.now }
 {
@@ -27,7 +27,7 @@ pub(super) fn error(text: &[u8]) -> Found
     Some((Token::Error(kind), kind.word().len()))
 }
 
-/// The error value whose word stands at the front.
+/// The error value whose word a text begins with.
 fn error_kind(text: &[u8]) -> Option<ErrorKind>
     ensures { result ≡ find (λ e. begins_with (error_word e) text.now) all_errors }
 {
@@ -60,7 +60,7 @@ fn is_word(text: &[u8], word: &[u8]) -> bool
     text.len() == word.len() && begins_with(word, text)
 }
 
-/// How many bytes a word in upper case and the text have in common at their front, in any case.
+/// The length of the longest common prefix of a word in upper case and a text, in any case.
 pub(super) fn common_len(word: &[u8], text: &[u8]) -> usize
     ensures value { result ≡ common_len word.now (capitals text.now) }
     ensures within { result ≤ length text.now }
@@ -94,7 +94,7 @@ pub(super) fn word(alloc: Global, text: &[u8]) -> Result<Found, ParseFault>
     }
 }
 
-/// How many letters, digits, `.` and `_` stand at the front.
+/// How many letters, digits, `.` and `_` a text begins with.
 pub(super) fn word_len(text: &[u8]) -> usize
     ensures { result ≡ length (take_while is_name_byte text.now) }
 {
@@ -125,7 +125,7 @@ fn callee(alloc: Global, word: &[u8]) -> Result<Option<Callee>, AllocError>
     }
 }
 
-/// The reference or the area at the front.
+/// The reference or the area that a text begins with.
 fn reference(text: &[u8]) -> Found
     ensures { result ≡ reference_found text.now (reference_at text.now) }
 {

@@ -1,4 +1,3 @@
-use Rattle.std.proofs.Common.{◌≡◌}
 use Rattle.formula_parse.specs.Turns.{IsReadUpTo}
 use Rattle.formula_parse.proofs.CodeLoop.{Reads}
 use Rattle.formula_parse.proofs.parser.read_formula.Given as goal

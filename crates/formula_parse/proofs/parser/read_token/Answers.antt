@@ -1,4 +1,4 @@
-use Rattle.std.proofs.Common.{◌≡◌, ◌+◌, ◌≤◌, cond, drop, length, Some, None, inr, length-drop, arith, ap, sym, ◌∙◌}
+use Rattle.std.proofs.Common.{◌≡◌, cond, drop, Some, None, inr, length-drop, arith, ap, sym, ◌∙◌}
 use Rattle.formula_parse.specs.Lexing.{token_at}
 use Rattle.formula_parse.specs.ReaderMachine.{reader_behind}
 use Rattle.formula_parse.proofs.CodeLengths.{token_within}
