@@ -64,7 +64,7 @@ none_above (e ∷ es) c h = ap (λ b. unwrap_or (cond b (Some e.1) (lookup (same
 
 -- ---- the entries from a cell on
 -- the first entry isn't below the cell
-below_later : (es : List (Cell × Value)) (c : Cell) (e : Cell) → cell_cmp c e ≡ Less → AllByRecursion (λ k. cell_cmp e k ≡ Less) (keys_of es) → AllByRecursion (λ k. cell_cmp c k ≡ Less) (keys_of es)
+pub below_later : (es : List (Cell × Value)) (c : Cell) (e : Cell) → cell_cmp c e ≡ Less → AllByRecursion (λ k. cell_cmp e k ≡ Less) (keys_of es) → AllByRecursion (λ k. cell_cmp c k ≡ Less) (keys_of es)
 below_later [] c e h all = tt
 below_later (x ∷ es) c e h all = (cells_total.trans c e x.0 h all.0, below_later es c e h all.1)
 
@@ -183,18 +183,3 @@ from_point (e ∷ es) c (suc i) within point =
 pub no_entries : (es : List (Cell × Value)) → es ≡ [] → IsStrictlySortedBy cell_cmp (keys_of es)
 unfolding IsStrictlySortedBy
 no_entries es none = subst (λ (xs : List (Cell × Value)). IsStrictlySortedBy cell_cmp (keys_of xs)) (sym none) tt
-
-pub one_entry : (es : List (Cell × Value)) (e : Cell × Value) (rest : List (Cell × Value)) → es ≡ e ∷ rest → rest ≡ [] → IsStrictlySortedBy cell_cmp (keys_of es)
-unfolding IsStrictlySortedBy
-one_entry es e rest is none = subst (λ (xs : List (Cell × Value)). IsStrictlySortedBy cell_cmp (keys_of xs)) (sym (is ∙ ap (λ (xs : List (Cell × Value)). e ∷ xs) none)) (tt, tt)
-
--- an entry in front of entries in order of which the first is above it
-front_entry : (e f : Cell × Value) (rest : List (Cell × Value)) → cell_cmp e.0 f.0 ≡ Less → IsStrictlySortedBy cell_cmp (keys_of (f ∷ rest)) → IsStrictlySortedBy cell_cmp (keys_of (e ∷ f ∷ rest))
-unfolding IsStrictlySortedBy
-front_entry e f rest below h = ((below, below_later rest e.0 f.0 below h.0), h)
-
-pub more_entries : (es : List (Cell × Value)) (e : Cell × Value) (others : List (Cell × Value)) (f : Cell × Value) (rest : List (Cell × Value)) → es ≡ e ∷ others → others ≡ f ∷ rest → cell_cmp e.0 f.0 ≡ Less
-    → IsStrictlySortedBy cell_cmp (keys_of others) → IsStrictlySortedBy cell_cmp (keys_of es)
-more_entries es e others f rest is split below h =
-    subst (λ (xs : List (Cell × Value)). IsStrictlySortedBy cell_cmp (keys_of xs)) (sym (is ∙ ap (λ (xs : List (Cell × Value)). e ∷ xs) split))
-    (front_entry e f rest below (subst (λ (xs : List (Cell × Value)). IsStrictlySortedBy cell_cmp (keys_of xs)) split h))

@@ -1,21 +1,22 @@
--- Lemmas of this crate.
-pub mod AnswerLaws
-pub mod AreaLaws
-pub mod Calling
-pub mod Chaining
-pub mod Choosing
-pub mod DecidedCalls
-pub mod Deciding
-pub mod Decisions
-pub mod Evaluable
-pub mod Gathering
-pub mod Growing
-pub mod Halting
-pub mod InputLaws
-pub mod KnownTopics
-pub mod OperationLaws
-pub mod Reading
-pub mod SiteLaws
-pub mod Taking
-pub mod TopicLaws
-pub mod Weights
+-- Lemmas of this crate. Crates above cite none of them.
+mod AnswerLaws
+mod AreaLaws
+mod Ascending
+mod Calling
+mod Chaining
+mod Choosing
+mod DecidedCalls
+mod Deciding
+mod Decisions
+mod Evaluable
+mod Gathering
+mod Growing
+mod Halting
+mod InputLaws
+mod KnownTopics
+mod OperationLaws
+mod Reading
+mod SiteLaws
+mod Taking
+mod TopicLaws
+mod Weights

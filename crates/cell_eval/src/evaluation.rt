@@ -10,7 +10,7 @@ use super::area_values::{area_argument, area_taken, input_value};
 use super::choices::{Choice, Chooser, choice_after, chooser_of};
 use super::halts::Halt;
 use super::jobs::Job;
-use super::operations::{combined, finished, negated};
+use super::operations::{combined, negated};
 use super::sites::pass_all;
 use super::topics::{takes_rtd_count, topic_answer};
 use addin_types::AddIns;
@@ -33,7 +33,7 @@ impl<'a, F: AddIns> Evaluator<'a, F> {
     #[cycle(part)]
     pub fn part(&self, node: &Node, sites: &mut u16) -> Result<Value, Halt>
         requires small { NamesSmallAreas self.now.job.now.cell.sheet node.now }
-        requires fits { sites.old + site_count node.now ≤ 65535 }
+        requires fits { sites.old + site_count node.now ≤ u16.MAX }
         ensures value { ComesTo
             (answer_at (world_of F.answer self.now.job.now) node.now sites.old) result }
         ensures sites { OnOk result (sites.new ≡ sites.old + site_count node.now) }
@@ -49,8 +49,8 @@ impl<'a, F: AddIns> Evaluator<'a, F> {
             }
             Node::Area(_, _) => Ok(Value::Error(ErrorKind::Value)),
             Node::Call { callee, arguments } => {
-                let value = self.call(callee, arguments.as_slice(), sites)?;
-                Ok(finished(value))
+                let value = self.call(callee, arguments.get().as_slice(), sites)?;
+                Ok(value.or_zero())
             }
             Node::Parentheses(inner) => self.part(inner.get(), sites),
             Node::Negation { count, operand } => {
@@ -60,7 +60,7 @@ impl<'a, F: AddIns> Evaluator<'a, F> {
             Node::Chain {
                 operands,
                 operators,
-            } => self.chain(operands.as_slice(), operators.as_slice(), sites),
+            } => self.chain(operands.get().as_slice(), operators.get().as_slice(), sites),
         }
     }
 
@@ -73,7 +73,7 @@ impl<'a, F: AddIns> Evaluator<'a, F> {
         sites: &mut u16,
     ) -> Result<Value, Halt>
         requires small { All (NamesSmallAreas self.now.job.now.cell.sheet) operands.now }
-        requires fits { sites.old + sites_among operands.now ≤ 65535 }
+        requires fits { sites.old + sites_among operands.now ≤ u16.MAX }
         ensures value { ComesTo
             (chain_at (world_of F.answer self.now.job.now) operands.now operators.now sites.old)
             result }
@@ -94,7 +94,7 @@ impl<'a, F: AddIns> Evaluator<'a, F> {
     #[cycle(part)]
     fn all_values(&self, nodes: &[Node], sites: &mut u16) -> Result<Vec<Value>, Halt>
         requires small { All (NamesSmallAreas self.now.job.now.cell.sheet) nodes.now }
-        requires fits { sites.old + sites_among nodes.now ≤ 65535 }
+        requires fits { sites.old + sites_among nodes.now ≤ u16.MAX }
         ensures values { MatchResult result (λ vs. GiveAll
             (answers_at (world_of F.answer self.now.job.now) nodes.now sites.old) vs.items)
             (HaltAll (answers_at (world_of F.answer self.now.job.now) nodes.now sites.old)) }
@@ -112,7 +112,7 @@ impl<'a, F: AddIns> Evaluator<'a, F> {
     #[cycle(part)]
     fn call(&self, callee: &Callee, arguments: &[Node], sites: &mut u16) -> Result<Value, Halt>
         requires small { All (NamesSmallAreas self.now.job.now.cell.sheet) arguments.now }
-        requires fits { sites.old + (own_site callee.now + sites_among arguments.now) ≤ 65535 }
+        requires fits { sites.old + (own_site callee.now + sites_among arguments.now) ≤ u16.MAX }
         ensures value { ComesTo
             (call_at (world_of F.answer self.now.job.now) callee.now arguments.now sites.old)
             result }
@@ -130,7 +130,7 @@ impl<'a, F: AddIns> Evaluator<'a, F> {
     #[cycle(part)]
     fn topic(&self, arguments: &[Node], sites: &mut u16) -> Result<Value, Halt>
         requires small { All (NamesSmallAreas self.now.job.now.cell.sheet) arguments.now }
-        requires fits { sites.old + sites_among arguments.now ≤ 65535 }
+        requires fits { sites.old + sites_among arguments.now ≤ u16.MAX }
         ensures value { ComesTo
             (rtd_at (world_of F.answer self.now.job.now) arguments.now sites.old) result }
         ensures sites { OnOk result (sites.new ≡ sites.old + sites_among arguments.now) }
@@ -147,7 +147,7 @@ impl<'a, F: AddIns> Evaluator<'a, F> {
     #[cycle(part)]
     fn added(&self, name: &Name, arguments: &[Node], sites: &mut u16) -> Result<Value, Halt>
         requires small { All (NamesSmallAreas self.now.job.now.cell.sheet) arguments.now }
-        requires fits { sites.old + (1 + sites_among arguments.now) ≤ 65535 }
+        requires fits { sites.old + (1 + sites_among arguments.now) ≤ u16.MAX }
         ensures value { ComesTo
             (added_at (world_of F.answer self.now.job.now) name.now arguments.now sites.old)
             result }
@@ -176,7 +176,7 @@ impl<'a, F: AddIns> Evaluator<'a, F> {
         sites: &mut u16,
     ) -> Result<Value, Halt>
         requires small { All (NamesSmallAreas self.now.job.now.cell.sheet) arguments.now }
-        requires fits { sites.old + sites_among arguments.now ≤ 65535 }
+        requires fits { sites.old + sites_among arguments.now ≤ u16.MAX }
         ensures value { ComesTo
             (built_in_at (world_of F.answer self.now.job.now) function arguments.now sites.old)
             result }
@@ -199,7 +199,7 @@ impl<'a, F: AddIns> Evaluator<'a, F> {
     #[cycle(part)]
     fn chosen(&self, chooser: Chooser, arguments: &[Node], sites: &mut u16) -> Result<Value, Halt>
         requires small { All (NamesSmallAreas self.now.job.now.cell.sheet) arguments.now }
-        requires fits { sites.old + sites_among arguments.now ≤ 65535 }
+        requires fits { sites.old + sites_among arguments.now ≤ u16.MAX }
         ensures value { ComesTo
             (chooser_at (world_of F.answer self.now.job.now) chooser arguments.now sites.old)
             result }
@@ -222,7 +222,7 @@ impl<'a, F: AddIns> Evaluator<'a, F> {
     #[cycle(part)]
     fn only(&self, nodes: &[Node], place: usize, sites: &mut u16) -> Result<Value, Halt>
         requires small { All (NamesSmallAreas self.now.job.now.cell.sheet) nodes.now }
-        requires fits { sites.old + sites_among nodes.now ≤ 65535 }
+        requires fits { sites.old + sites_among nodes.now ≤ u16.MAX }
         ensures value { ComesTo
             (only_at (world_of F.answer self.now.job.now) nodes.now place sites.old)
             result }
@@ -242,7 +242,7 @@ impl<'a, F: AddIns> Evaluator<'a, F> {
     #[cycle(part)]
     fn inputs(&self, function: Function, nodes: &[Node], sites: &mut u16) -> Result<Vec<Arg>, Halt>
         requires small { All (NamesSmallAreas self.now.job.now.cell.sheet) nodes.now }
-        requires fits { sites.old + sites_among nodes.now ≤ 65535 }
+        requires fits { sites.old + sites_among nodes.now ≤ u16.MAX }
         ensures args { MatchResult result
             (λ args. AreTaken (world_of F.answer self.now.job.now) function 0
             (arguments_at (world_of F.answer self.now.job.now) nodes.now sites.old) args.items)
@@ -270,7 +270,7 @@ impl<'a, F: AddIns> Evaluator<'a, F> {
         sites: &mut u16,
     ) -> Result<Arg, Halt>
         requires small { NamesSmallAreas self.now.job.now.cell.sheet node.now }
-        requires fits { sites.old + site_count node.now ≤ 65535 }
+        requires fits { sites.old + site_count node.now ≤ u16.MAX }
         ensures arg { MatchResult result
             (IsTaken (world_of F.answer self.now.job.now) function place
             (argument_at (world_of F.answer self.now.job.now) node.now sites.old))

@@ -1,5 +1,4 @@
 ghost use Rattle.std.specs.Prelude.{◌≡◌, IfOk};
-ghost use Rattle.cell_values.specs.Value.{final_of};
 ghost use Rattle.cell_eval.specs.Steps.{combination_of};
 ghost use Rattle.workbook.specs.Evaluation.{operation_of, repeated_negation};
 
@@ -47,14 +46,4 @@ pub fn negated(count: u32, value: Value) -> Value
         value = negate(&value);
     }
     value
-}
-
-/// A value, where Blank is made 0.
-pub fn finished(value: Value) -> Value
-    ensures { result ≡ final_of value }
-{
-    match value {
-        Value::Blank => Value::Num(0),
-        other => other,
-    }
 }

@@ -6,7 +6,6 @@ ghost use Rattle.cell_eval.specs.Outcomes.{outcome_answer};
 use super::evaluation::Evaluator;
 use super::halts::Halt;
 use super::jobs::{Job, Outcome};
-use super::operations::finished;
 use addin_types::AddIns;
 use cell_values::Memory;
 use std::alloc::Global;
@@ -19,7 +18,7 @@ pub fn eval<F: AddIns>(alloc: Global, job: &Job, addins: &F) -> Result<Outcome, 
     let evaluator = Evaluator { alloc, job, addins };
     let mut sites = 0;
     match evaluator.part(job.tree.root(), &mut sites) {
-        Ok(value) => Ok(Outcome::Done(finished(value))),
+        Ok(value) => Ok(Outcome::Done(value.or_zero())),
         Err(Halt::Memory) => Err(Memory),
         Err(Halt::Topic(topic)) => Ok(Outcome::Topic(topic)),
         Err(Halt::Call { site, name, args }) => Ok(Outcome::Call { site, name, args }),

@@ -8,7 +8,7 @@ use formula_parse::{Callee, Node};
 /// Counts the sites of a part that isn't evaluated.
 #[cycle(pass)]
 pub fn pass(node: &Node, sites: &mut u16)
-    requires { sites.old + site_count node.now ≤ 65535 }
+    requires { sites.old + site_count node.now ≤ u16.MAX }
     ensures { sites.new ≡ sites.old + site_count node.now }
 {
     match node {
@@ -20,18 +20,18 @@ pub fn pass(node: &Node, sites: &mut u16)
         | Node::Area(_, _) => {}
         Node::Call { callee, arguments } => {
             *sites += own_site(callee);
-            pass_all(arguments.as_slice(), sites);
+            pass_all(arguments.get().as_slice(), sites);
         }
         Node::Parentheses(inner) => pass(inner.get(), sites),
         Node::Negation { operand, .. } => pass(operand.get(), sites),
-        Node::Chain { operands, .. } => pass_all(operands.as_slice(), sites),
+        Node::Chain { operands, .. } => pass_all(operands.get().as_slice(), sites),
     }
 }
 
 /// Counts the sites of parts that aren't evaluated.
 #[cycle(pass)]
 pub fn pass_all(nodes: &[Node], sites: &mut u16)
-    requires { sites.old + sites_among nodes.now ≤ 65535 }
+    requires { sites.old + sites_among nodes.now ≤ u16.MAX }
     ensures { sites.new ≡ sites.old + sites_among nodes.now }
 {
     for node in nodes {

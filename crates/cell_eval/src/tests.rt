@@ -1,32 +1,10 @@
-ghost use Rattle.std.specs.Prelude.{◌≡◌, true};
-ghost use Rattle.std.specs.List.Sorted.{IsStrictlySortedBy};
-ghost use Rattle.std.specs.Map.{keys_of};
-ghost use Rattle.cell_refs.specs.Cell.{cell_cmp};
-
 use super::*;
 use addin_types::{Kind, Registration, SampleAddIns};
 use cell_refs::Cell;
-use cell_values::{Name, Text, Texts, Topic, Value, print_value, read_value};
+use cell_values::{Name, Text, Texts, Value, print_value, read_value};
 use formula_parse::parse;
 use std::alloc::Global;
 use std::test::Fail;
-
-/// Whether entries stand in the order of cells, each once.
-fn do_ascend(entries: &[(Cell, Value)]) -> bool
-    ensures { result ≡ true → IsStrictlySortedBy cell_cmp (keys_of entries.now) }
-{
-    let Some((first, others)) = entries.split_first() else {
-        return true;
-    };
-    let Some((second, _)) = others.split_first() else {
-        return true;
-    };
-    if first.0 < second.0 {
-        do_ascend(others)
-    } else {
-        false
-    }
-}
 
 /// The inputs of cells by sheet, row, column and value word.
 fn inputs_of(alloc: Global, cells: &[(u8, u32, u16, &str)]) -> Result<Inputs, Fail> {
@@ -39,7 +17,7 @@ fn inputs_of(alloc: Global, cells: &[(u8, u32, u16, &str)]) -> Result<Inputs, Fa
         };
         entries.push((cell, read_value(alloc, word)?))?;
     }
-    if !do_ascend(entries.as_slice()) {
+    if !is_in_order(entries.as_slice()) {
         return Err(Fail::from("inputs out of order"));
     }
     Ok(Inputs::new(entries))
@@ -455,5 +433,28 @@ fn a_job_resumed_topic_by_topic_has_the_value_of_one_that_knows_all(
         let words = resumed(alloc, TWO_TOPICS, &[("S", "a", word), ("S", "b", word)])?;
         assert_eq!(rt; words.as_str(), expected, "{word}");
     }
+    Ok(())
+}
+
+#[test]
+fn entries_are_in_order_where_each_cell_is_greater(rt: HostRuntime) -> Result<(), Fail> {
+    let (first, second) = (
+        Cell {
+            sheet: 1,
+            row: 1,
+            col: 2,
+        },
+        Cell {
+            sheet: 1,
+            row: 2,
+            col: 1,
+        },
+    );
+    let ascending = [(first, Value::Num(1)), (second, Value::Num(2))];
+    assert!(rt; is_in_order(&ascending));
+    let repeated = [(first, Value::Num(1)), (first, Value::Num(2))];
+    assert!(rt; !is_in_order(&repeated));
+    let descending = [(second, Value::Num(1)), (first, Value::Num(2))];
+    assert!(rt; !is_in_order(&descending));
     Ok(())
 }

@@ -18,11 +18,14 @@ use std::alloc::Global;
 /// The greatest number of characters of a topic's string.
 const LONGEST_STRING: usize = 255;
 
+/// The least and the most arguments of RTD.
+const RTD_ARITY: (usize, usize) = (3, 18);
+
 /// Whether RTD takes so many arguments.
 pub fn takes_rtd_count(count: usize) -> bool
     ensures { result ≡ is_within RTD_ARITY count }
 {
-    3 <= count && count <= 18
+    RTD_ARITY.0 <= count && count <= RTD_ARITY.1
 }
 
 /// The texts that values count as, or the first error.

@@ -11,7 +11,7 @@ pub returns-in-Ok : goal.returns-in-Ok
 unfolding answer_at
 returns-in-Ok g c =
     let at = λ (node : Node). answer_at (world_of g.F.AddIns.answer c.args.job.now) node 0 in
-    ap Val c.finished.ensures ∙ sym (ap final_answer (ap at (sym c.root.ensures.value) ∙ c.in-Ok.ensures.value))
+    ap Val c.or_zero.ensures ∙ sym (ap final_answer (ap at (sym c.root.ensures.value) ∙ c.in-Ok.ensures.value))
 
 pub returns-in-Err-Topic : goal.returns-in-Err-Topic
 unfolding answer_at

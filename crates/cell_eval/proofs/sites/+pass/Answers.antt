@@ -11,15 +11,15 @@ use Rattle.cell_eval.proofs.sites.+pass.Goals as goal
 pub pass-pass_all-requires : goal.pass-pass_all-requires
 pass-pass_all-requires t c =
     let whole : site_count c.args.node.now ≡ own_site c.in-Call.callee + sites_among c.in-Call.arguments = ap site_count c.in-Call.is ∙ sites_call c.in-Call.callee c.in-Call.arguments in
-    let same : sites_among c.as_slice.result.now ≡ sites_among c.in-Call.arguments = ap sites_among c.as_slice.ensures in
+    let same : sites_among c.as_slice.result.now ≡ sites_among c.in-Call.arguments = ap sites_among (c.as_slice.ensures ∙ c.get.ensures) in
     let lighter = weight_call c.args.node.now c.in-Call.callee c.in-Call.arguments c.in-Call.is in
-    let alike : weights c.as_slice.result.now ≡ weights c.in-Call.arguments = ap weights c.as_slice.ensures in
+    let alike : weights c.as_slice.result.now ≡ weights c.in-Call.arguments = ap weights (c.as_slice.ensures ∙ c.get.ensures) in
     (omega arith, omega arith)
 
 pub pass-returns-in-Call : goal.pass-returns-in-Call
 pass-returns-in-Call t c =
     let whole : site_count c.args.node.now ≡ own_site c.in-Call.callee + sites_among c.in-Call.arguments = ap site_count c.in-Call.is ∙ sites_call c.in-Call.callee c.in-Call.arguments in
-    let same : sites_among c.as_slice.result.now ≡ sites_among c.in-Call.arguments = ap sites_among c.as_slice.ensures in
+    let same : sites_among c.as_slice.result.now ≡ sites_among c.in-Call.arguments = ap sites_among (c.as_slice.ensures ∙ c.get.ensures) in
     omega arith
 
 pub pass-overflow_add-sites : goal.pass-overflow_add-sites
@@ -30,23 +30,23 @@ pass-overflow_add-sites t c =
 pub pass-pass_all-requires-in-Chain : goal.pass-pass_all-requires-in-Chain
 pass-pass_all-requires-in-Chain t c =
     let whole : site_count c.args.node.now ≡ sites_among c.in-Chain.operands = ap site_count c.in-Chain.is ∙ sites_chain c.in-Chain.operands c.in-Chain.operators in
-    let same : sites_among c.as_slice-in-Chain.result.now ≡ sites_among c.in-Chain.operands = ap sites_among c.as_slice-in-Chain.ensures in
+    let same : sites_among c.as_slice-in-Chain.result.now ≡ sites_among c.in-Chain.operands = ap sites_among (c.as_slice-in-Chain.ensures ∙ c.get-in-Chain.ensures) in
     let lighter = weight_chain c.args.node.now c.in-Chain.operands c.in-Chain.operators c.in-Chain.is in
-    let alike : weights c.as_slice-in-Chain.result.now ≡ weights c.in-Chain.operands = ap weights c.as_slice-in-Chain.ensures in
+    let alike : weights c.as_slice-in-Chain.result.now ≡ weights c.in-Chain.operands = ap weights (c.as_slice-in-Chain.ensures ∙ c.get-in-Chain.ensures) in
     (omega arith, omega arith)
 
 pub pass-returns-in-Chain : goal.pass-returns-in-Chain
 pass-returns-in-Chain t c =
     let whole : site_count c.args.node.now ≡ sites_among c.in-Chain.operands = ap site_count c.in-Chain.is ∙ sites_chain c.in-Chain.operands c.in-Chain.operators in
-    let same : sites_among c.as_slice-in-Chain.result.now ≡ sites_among c.in-Chain.operands = ap sites_among c.as_slice-in-Chain.ensures in
+    let same : sites_among c.as_slice-in-Chain.result.now ≡ sites_among c.in-Chain.operands = ap sites_among (c.as_slice-in-Chain.ensures ∙ c.get-in-Chain.ensures) in
     omega arith
 
 pub pass-pass-requires : goal.pass-pass-requires
 pass-pass-requires t c =
     let whole : site_count c.args.node.now ≡ site_count c.in-Parentheses.inner = ap site_count c.in-Parentheses.is ∙ sites_parentheses c.in-Parentheses.inner in
-    let same : site_count c.get.result.now ≡ site_count c.in-Parentheses.inner = ap site_count c.get.ensures in
+    let same : site_count c.get-in-Parentheses.result.now ≡ site_count c.in-Parentheses.inner = ap site_count c.get-in-Parentheses.ensures in
     let lighter = weight_parentheses c.args.node.now c.in-Parentheses.inner c.in-Parentheses.is in
-    let alike : weight c.get.result.now ≡ weight c.in-Parentheses.inner = ap weight c.get.ensures in
+    let alike : weight c.get-in-Parentheses.result.now ≡ weight c.in-Parentheses.inner = ap weight c.get-in-Parentheses.ensures in
     (omega arith, omega arith)
 
 pub pass-pass-requires-in-Negation : goal.pass-pass-requires-in-Negation

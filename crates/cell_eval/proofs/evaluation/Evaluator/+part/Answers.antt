@@ -299,7 +299,7 @@ pub part-call-requires : goal.part-call-requires
 part-call-requires g t c κs within =
     let home = c.args.self.now.job.now.cell.sheet in
     let node = c.args.node.now in
-    let same : c.as_slice-in-Call.result.now ≡ c.in-Call.arguments = c.as_slice-in-Call.ensures in
+    let same : c.as_slice-in-Call.result.now ≡ c.in-Call.arguments = c.as_slice-in-Call.ensures ∙ c.get.ensures in
     let lighter = weight_call node c.in-Call.callee c.in-Call.arguments c.in-Call.is in
     let alike = ap weights same in
     let fewer = ap site_count c.in-Call.is ∙ sites_call c.in-Call.callee c.in-Call.arguments in
@@ -311,18 +311,18 @@ part-returns-in_err-value-in-Call-clause-value g t c =
     let world = world_of g.F.AddIns.answer c.args.self.now.job.now in
     let at = λ (n : Node). answer_at world n c.args.sites.now in
     let p = err_from_is_err_and c.from_residual-in_err-value-in-Call.result c.from_residual-in_err-value-in-Call.ensures.1 in
-    rw (p.1, p.2) (Halts-same _ _ _ (ap at c.in-Call.is ∙ answer_call world c.in-Call.callee c.in-Call.arguments c.args.sites.now ∙ ap (λ ns. final_answer (call_at world c.in-Call.callee ns c.args.sites.now)) (sym c.as_slice-in-Call.ensures)) (Halts-final _ _ c.in_err-value-in-Call.ensures.value))
+    rw (p.1, p.2) (Halts-same _ _ _ (ap at c.in-Call.is ∙ answer_call world c.in-Call.callee c.in-Call.arguments c.args.sites.now ∙ ap (λ ns. final_answer (call_at world c.in-Call.callee ns c.args.sites.now)) (sym (c.as_slice-in-Call.ensures ∙ c.get.ensures))) (Halts-final _ _ c.in_err-value-in-Call.ensures.value))
 
 pub part-returns-in_ok-value-in-Call-clause-value : goal.part-returns-in_ok-value-in-Call-clause-value
 part-returns-in_ok-value-in-Call-clause-value g t c =
     let world = world_of g.F.AddIns.answer c.args.self.now.job.now in
     let at = λ (n : Node). answer_at world n c.args.sites.now in
-    (ap at c.in-Call.is ∙ answer_call world c.in-Call.callee c.in-Call.arguments c.args.sites.now ∙ ap (λ ns. final_answer (call_at world c.in-Call.callee ns c.args.sites.now)) (sym c.as_slice-in-Call.ensures)) ∙ ap final_answer c.in_ok-value-in-Call.ensures.value ∙ ap Val (sym c.finished.ensures)
+    (ap at c.in-Call.is ∙ answer_call world c.in-Call.callee c.in-Call.arguments c.args.sites.now ∙ ap (λ ns. final_answer (call_at world c.in-Call.callee ns c.args.sites.now)) (sym (c.as_slice-in-Call.ensures ∙ c.get.ensures))) ∙ ap final_answer c.in_ok-value-in-Call.ensures.value ∙ ap Val (sym c.or_zero.ensures)
 
 pub part-returns-in_ok-value-in-Call-clause-sites : goal.part-returns-in_ok-value-in-Call-clause-sites
 part-returns-in_ok-value-in-Call-clause-sites g t c =
     let fewer = ap site_count c.in-Call.is ∙ sites_call c.in-Call.callee c.in-Call.arguments in
-    let count = ap sites_among c.as_slice-in-Call.ensures in
+    let count = ap sites_among (c.as_slice-in-Call.ensures ∙ c.get.ensures) in
     let done = c.in_ok-value-in-Call.ensures.sites in
     omega arith
 
@@ -330,7 +330,7 @@ pub part-part-requires : goal.part-part-requires
 part-part-requires g t c κs within =
     let home = c.args.self.now.job.now.cell.sheet in
     let node = c.args.node.now in
-    let same : c.get.result.now ≡ c.in-Parentheses.inner = c.get.ensures in
+    let same : c.get-in-Parentheses.result.now ≡ c.in-Parentheses.inner = c.get-in-Parentheses.ensures in
     let lighter = weight_parentheses node c.in-Parentheses.inner c.in-Parentheses.is in
     let alike = ap weight same in
     let fewer = ap site_count c.in-Parentheses.is ∙ sites_parentheses c.in-Parentheses.inner in
@@ -365,13 +365,13 @@ pub part-returns-in-Parentheses-clause-value : goal.part-returns-in-Parentheses-
 part-returns-in-Parentheses-clause-value g t c =
     let world = world_of g.F.AddIns.answer c.args.self.now.job.now in
     let at = λ (n : Node). answer_at world n c.args.sites.now in
-    ComesTo-same _ _ c.part.result (ap at c.in-Parentheses.is ∙ answer_parentheses world c.in-Parentheses.inner c.args.sites.now ∙ ap at (sym c.get.ensures)) c.part.ensures.value
+    ComesTo-same _ _ c.part.result (ap at c.in-Parentheses.is ∙ answer_parentheses world c.in-Parentheses.inner c.args.sites.now ∙ ap at (sym c.get-in-Parentheses.ensures)) c.part.ensures.value
 
 pub part-chain-requires : goal.part-chain-requires
 part-chain-requires g t c κs within =
     let home = c.args.self.now.job.now.cell.sheet in
     let node = c.args.node.now in
-    let same : c.as_slice-in-Chain.result.now ≡ c.in-Chain.operands = c.as_slice-in-Chain.ensures in
+    let same : c.as_slice-in-Chain.result.now ≡ c.in-Chain.operands = c.as_slice-in-Chain.ensures ∙ c.get-in-Chain.ensures in
     let lighter = weight_chain node c.in-Chain.operands c.in-Chain.operators c.in-Chain.is in
     let alike = ap weights same in
     let fewer = ap site_count c.in-Chain.is ∙ sites_chain c.in-Chain.operands c.in-Chain.operators in
@@ -382,11 +382,11 @@ pub part-returns-in-Chain-clause-value : goal.part-returns-in-Chain-clause-value
 part-returns-in-Chain-clause-value g t c =
     let world = world_of g.F.AddIns.answer c.args.self.now.job.now in
     let at = λ (n : Node). answer_at world n c.args.sites.now in
-    ComesTo-same _ _ c.chain.result (ap at c.in-Chain.is ∙ answer_chain world c.in-Chain.operands c.in-Chain.operators c.args.sites.now ∙ ap (λ ns. chain_at world ns c.in-Chain.operators c.args.sites.now) (sym c.as_slice-in-Chain.ensures) ∙ ap (λ ops. chain_at world c.as_slice-in-Chain.result.now ops c.args.sites.now) (sym c.as_slice-in-Chain-2.ensures)) c.chain.ensures.value
+    ComesTo-same _ _ c.chain.result (ap at c.in-Chain.is ∙ answer_chain world c.in-Chain.operands c.in-Chain.operators c.args.sites.now ∙ ap (λ ns. chain_at world ns c.in-Chain.operators c.args.sites.now) (sym (c.as_slice-in-Chain.ensures ∙ c.get-in-Chain.ensures)) ∙ ap (λ ops. chain_at world c.as_slice-in-Chain.result.now ops c.args.sites.now) (sym (c.as_slice-in-Chain-2.ensures ∙ c.get-in-Chain-2.ensures))) c.chain.ensures.value
 
 pub part-returns-in-Chain-clause-sites : goal.part-returns-in-Chain-clause-sites
 part-returns-in-Chain-clause-sites g t c =
-    let whole = ap site_count c.in-Chain.is ∙ sites_chain c.in-Chain.operands c.in-Chain.operators ∙ ap sites_among (sym c.as_slice-in-Chain.ensures) in
+    let whole = ap site_count c.in-Chain.is ∙ sites_chain c.in-Chain.operands c.in-Chain.operators ∙ ap sites_among (sym (c.as_slice-in-Chain.ensures ∙ c.get-in-Chain.ensures)) in
     subst (λ k. OnOk c.chain.result (c.chain.new.sites ≡ c.args.sites.now + k)) (sym whole) c.chain.ensures.sites
 
 pub chosen-returns-in_default-clause-value : goal.chosen-returns-in_default-clause-value
