@@ -3,10 +3,10 @@ use Rattle.std.proofs.Common.{◌≡◌, ◌≢◌, ℕ, zero, suc, ◌+◌, ◌
 use Rattle.std.proofs.lemmas.List.{length-reverse, reverse-append, reverse-reverse}
 use Rattle.std.proofs.lemmas.List.Folds.{list_any-append, list_any_at, list_any_more}
 use Rattle.std.specs.Cmp.{nat_eq_equiv}
-use Rattle.std.specs.List.{IsDistinct, filter, list_any, position_or_len}
+use Rattle.std.specs.List.{IsDistinct, filter}
 use Rattle.std.specs.Option.{MatchOption, option_to_list}
 use Rattle.std.specs.Prelude.{nat_eq, insert}
-use Rattle.std.proofs.lemmas.Bool.{or_cases, or_left, or_right, or_parts}
+use Rattle.std.proofs.lemmas.Bool.{or_cases, or_parts}
 use Rattle.std.proofs.lemmas.Map.Keys.{IsDistinct-push}
 use Rattle.calc_chain.specs.Chain.{IsChain, behind_first, entries_among, first_of, has, moved_behind, place_of, without}
 use Rattle.calc_chain.proofs.ListLaws.{distinct_filter, distinct_head, distinct_more, distinct_none, distinct_tail, filter-alike, filter-append, filter-both, filter-reverse, filter-short, flipped, has-filter, itself, same_number}

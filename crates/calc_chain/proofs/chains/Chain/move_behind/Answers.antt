@@ -1,6 +1,6 @@
-use Rattle.std.proofs.Common.{◌≡◌, ◌<◌, ◌≤◌, ◌+◌, ℕ, true, false, cond, arith, ap, refl, subst, sym, ◌∙◌, length, reverse}
+use Rattle.std.proofs.Common.{◌≡◌, true, false, cond, arith, ap, refl, subst, sym, ◌∙◌, length, reverse}
 use Rattle.std.specs.Result.{is_ok}
-use Rattle.calc_chain.specs.Chain.{has, is_behind, moved_behind, place_of, without}
+use Rattle.calc_chain.specs.Chain.{has, is_behind, moved_behind}
 use Rattle.calc_chain.proofs.ChainLaws.{chain-moved, chain-same, moved-has, moved-items, moved-length, moved-place, without_shorter}
 use Rattle.calc_chain.proofs.chains.Chain.move_behind.Goals as goal
 

@@ -1,4 +1,4 @@
-use Rattle.std.proofs.Common.{[], arith, sym, ap, reverse, subst, ◌≡◌, true}
+use Rattle.std.proofs.Common.{[], arith, ap, reverse, subst, ◌≡◌, true}
 use Rattle.calc_chain.specs.Chain.{has}
 use Rattle.calc_chain.proofs.ChainLaws.{chain-new, chain-same}
 use Rattle.calc_chain.proofs.chains.Chain.new.Goals as goal

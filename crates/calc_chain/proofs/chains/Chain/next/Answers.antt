@@ -1,4 +1,4 @@
-use Rattle.std.proofs.Common.{arith, refl, sym}
+use Rattle.std.proofs.Common.{arith, refl}
 use Rattle.calc_chain.proofs.ChainLaws.{chain-next, chain-same, none_left, popped}
 use Rattle.calc_chain.proofs.chains.Chain.next.Goals as goal
 

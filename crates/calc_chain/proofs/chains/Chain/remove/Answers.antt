@@ -1,4 +1,4 @@
-use Rattle.std.proofs.Common.{◌≡◌, true, not, ◌==◌, arith, ap, refl, subst, sym, ◌∙◌, length, reverse}
+use Rattle.std.proofs.Common.{◌≡◌, true, not, ◌==◌, arith, ap, subst, ◌∙◌, length, reverse}
 use Rattle.calc_chain.specs.Chain.{has, without}
 use Rattle.calc_chain.proofs.ListLaws.{filter-short}
 use Rattle.calc_chain.proofs.ChainLaws.{chain-same, chain-without, has-without, turned-without}

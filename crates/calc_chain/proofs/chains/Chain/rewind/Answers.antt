@@ -1,4 +1,4 @@
-use Rattle.std.proofs.Common.{◌≡◌, ◌<◌, ℕ, true, arith, ap, refl, subst, ◌∙◌, length, reverse}
+use Rattle.std.proofs.Common.{◌≡◌, ◌<◌, ℕ, true, arith, ap, refl, ◌∙◌, length}
 use Rattle.calc_chain.specs.Chain.{entries_among, has}
 use Rattle.calc_chain.proofs.ChainLaws.{chain-among, chain-same, rewound}
 use Rattle.calc_chain.proofs.chains.Chain.rewind.Goals as goal
