@@ -1,5 +1,5 @@
 -- A cell is among the readers of another exactly where one of its areas has it.
-use Rattle.std.proofs.Common.{◌≡◌, Bool, true, false, cond, Option, None, Some, List, [], refl, ap, sym, ◌∙◌}
+use Rattle.std.proofs.Common.{◌≡◌, true, false, cond, Option, None, Some, List, [], refl, ap, sym, ◌∙◌}
 use Rattle.std.specs.Option.{is_some, unwrap_or}
 use Rattle.std.specs.List.{filter}
 use Rattle.std.specs.Map.{lookup}

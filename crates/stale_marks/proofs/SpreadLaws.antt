@@ -1,14 +1,14 @@
 -- What one more marked cell makes of what has spread.
 use Rattle.std.proofs.Common.{◌≡◌, Bool, true, false, cond, ◌||◌, List, [], ◌∷◌, ◌++◌, ◌⊎◌, ⊎_elim, inl, inr, refl, ap, sym, subst, ◌∙◌}
-use Rattle.std.specs.List.{IsDistinct, list_any}
-use Rattle.std.proofs.lemmas.Bool.{or_cases, or_left, or_right, or_from, or_parts}
+use Rattle.std.specs.List.{IsDistinct}
+use Rattle.std.proofs.lemmas.Bool.{or_cases, or_left, or_parts}
 use Rattle.std.proofs.lemmas.List.Folds.{list_any-append}
 use Rattle.std.proofs.lemmas.Map.Keys.{IsDistinct-push}
 use Rattle.cell_refs.specs.declared.areas.Area.{Area}
 use Rattle.cell_refs.specs.declared.grid.Cell.{Cell}
 use Rattle.cell_refs.specs.Cell.{is_among, same_cell}
 use Rattle.cell_refs.proofs.PublicLaws.{same_cell_is, same_cells}
-use Rattle.stale_marks.specs.Spreading.{AreDependents, HasSpread, HasSpreadInPart}
+use Rattle.stale_marks.specs.Spreading.{HasSpread, HasSpreadInPart}
 use Rattle.stale_marks.specs.Marks.{IsDependent, KeepsMarks}
 
 -- new has this cell beside what old has

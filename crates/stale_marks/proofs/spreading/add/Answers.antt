@@ -1,4 +1,4 @@
-use Rattle.std.proofs.Common.{◌≡◌, [], ◌∷◌, ◌++◌, subst, sym}
+use Rattle.std.proofs.Common.{subst, sym}
 use Rattle.stale_marks.specs.Spreading.{HasSpread}
 use Rattle.stale_marks.proofs.SpreadLaws.{gains-keeps, spread-more}
 use Rattle.stale_marks.proofs.spreading.add.Goals as goal

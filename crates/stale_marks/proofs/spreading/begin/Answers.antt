@@ -1,5 +1,4 @@
-use Rattle.std.proofs.Common.{[], ◌∷◌, sym}
-use Rattle.stale_marks.specs.Spreading.{HasSpreadInPart}
+use Rattle.std.proofs.Common.{sym}
 use Rattle.stale_marks.proofs.SpreadLaws.{spread-none}
 use Rattle.stale_marks.proofs.WalkLaws.{begun-itself, origin-dependent}
 use Rattle.stale_marks.proofs.spreading.begin.Goals as goal

@@ -1,6 +1,6 @@
 use Rattle.std.proofs.Common.{subst, sym}
 use Rattle.stale_marks.specs.Spreading.{HasSpreadInPart}
-use Rattle.stale_marks.proofs.WalkLaws.{end-all, end-closed, end-only, marked-all, marked-closed, taken-back}
+use Rattle.stale_marks.proofs.WalkLaws.{end-all, marked-all, taken-back}
 use Rattle.stale_marks.proofs.spreading.spread.Goals as goal
 
 pub returns-then-contains-clause-all : goal.returns-then-contains-clause-all

@@ -1,4 +1,4 @@
-use Rattle.std.proofs.Common.{◌≡◌, ◌≤◌, ◌-◌, List, length, take}
+use Rattle.std.proofs.Common.{◌≤◌, ◌-◌, length, take}
 use Rattle.std.specs.BTreeSet.{IsOrdered}
 use Rattle.cell_refs.specs.Cell.{cell_cmp}
 use Rattle.stale_marks.specs.Spreading.{AreWalked, HasBegun, HasSpread}

@@ -1,0 +1,3 @@
+-- Laws of the chain.
+mod ChainLaws
+mod ListLaws
