@@ -1,4 +1,5 @@
 -- The laws that crates above may cite: the order of cells, the cells of areas, and references read and written.
+pub use Rattle.cell_refs.proofs.AmongCells.{found_among, some_among, lies_in-among}
 unfoldable pub use Rattle.cell_refs.proofs.BothWays.{reference_capitals}
 pub use Rattle.cell_refs.proofs.BothWays.{reference_again, reference_takes, sheet_capitals, sheet_takes}
 pub use Rattle.cell_refs.proofs.Capitals.{number_found, number_none, cut_digits}

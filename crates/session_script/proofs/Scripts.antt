@@ -10,7 +10,7 @@ use Rattle.std.proofs.lemmas.Str.{utf8_valid_len-IsUtf8}
 use Rattle.formula_parse.specs.declared.nodes.Node.{Node}
 use Rattle.formula_parse.specs.declared.faults.ParseFault.{ParseFault}
 use Rattle.formula_parse.specs.declared.faults.ParseFault.TheVariants as faults
-use Rattle.formula_parse.specs.Reading.{formula_of, parse_result}
+use Rattle.formula_parse.specs.Parsing.{formula_of, parse_result}
 use Rattle.session_script.specs.declared.script.Parsed.{Parsed}
 use Rattle.session_script.specs.declared.script.Parsed.TheVariants.{Empty}
 use Rattle.session_script.specs.declared.script.BadLine.{BadLine}

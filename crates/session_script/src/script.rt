@@ -2,7 +2,7 @@
 
 ghost use Rattle.std.specs.Prelude.{◌≡◌, ◌≢◌, Some, None, Err, IfOk};
 ghost use Rattle.std.specs.Prelude.{option_map};
-ghost use Rattle.formula_parse.specs.Reading.{formula_of};
+ghost use Rattle.formula_parse.specs.Parsing.{formula_of};
 ghost use Rattle.session_script.specs.Script.{cell_of, content_of, set_said, word_said, words_said, line_said};
 
 use super::constants::{read_constant, read_text};

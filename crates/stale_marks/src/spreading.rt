@@ -109,7 +109,8 @@ fn walk_on(
     requires ordered { IsOrdered cell_cmp marks.old }
     requires from { Reaches (precedents_at table.now) (origin ∷ []) cell }
     ensures ordered { IsOrdered cell_cmp marks.new }
-    ensures spread { (old : List OneCell) → HasSpread table.now origin old marks.old.keys added.old.items
+    ensures spread { (old : List OneCell)
+        → HasSpread table.now origin old marks.old.keys added.old.items
         → MatchResult result
         (λ _. HasSpread table.now origin old marks.new.keys added.new.items)
         (λ _. HasSpreadInPart old marks.new.keys added.new.items) }

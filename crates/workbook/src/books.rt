@@ -240,7 +240,9 @@ impl Book {
 
     /// Registers a function, in place of any of that name. A refusal changes nothing.
     pub fn register(&mut self, name: Name, registration: Registration) -> Result<(), Memory>
-        ensures ok { OnOk result (self.new ≡ record self.old { functions = insert_entry name_cmp self.old.functions name registration }) }
+        ensures ok { OnOk result (self.new ≡ record self.old {
+          functions = insert_entry name_cmp self.old.functions name registration;
+        }) }
         ensures refused { OnErr result (self.new ≡ self.old) }
     {
         self.functions.register(name, registration)
