@@ -1,7 +1,5 @@
 -- What lines say.
 use Rattle.std.proofs.Common.{◌≡◌, ◌≢◌, ℕ, ◌≤◌, ◌<◌, ◌⊎◌, inl, inr, Bool, true, false, cond, List, [], ◌∷◌, length, Option, Some, None, Result, Err, IfOk, eqb, ltb, refl, ap, sym, subst, ◌∙◌, arith}
-use Rattle.std.specs.Char.{is_ascii_digit}
-use Rattle.std.specs.List.{list_all}
 use Rattle.std.specs.Result.{result_ok}
 use Rattle.std.specs.Str.{IsUtf8}
 use Rattle.std.specs.Str.Lossy.{utf8_valid_len}
@@ -15,7 +13,7 @@ use Rattle.session_script.specs.declared.script.Parsed.{Parsed}
 use Rattle.session_script.specs.declared.script.Parsed.TheVariants.{Empty}
 use Rattle.session_script.specs.declared.script.BadLine.{BadLine}
 use Rattle.workbook.specs.declared.contents.Content.{Content}
-use Rattle.session_script.specs.Script.{are_digits, words_said, line_said}
+use Rattle.session_script.specs.Script.{words_said, line_said}
 
 at_most : (b : Bool) (o : Option Parsed) → b ≡ false → cond b None o ≡ o
 at_most true o h = cc
@@ -55,8 +53,3 @@ no_formula text r fault is known (inr exact) = none_said text fault (sym is ∙ 
 
 pub same_fault : (a b : BadLine) → ◌≡◌ {A = Result Content BadLine} (Err a) (Err b) → a ≡ b
 same_fault a b e = cc
-
--- of some bytes that are all digits
-pub some_digits : (bs : List ℕ) → 0 < length bs → list_all is_ascii_digit bs ≡ are_digits bs
-some_digits [] h = absurd (omega (arith, h))
-some_digits (b ∷ bs) h = refl

@@ -1,7 +1,6 @@
 -- What the lines of a script say.
-use Rattle.std.specs.Prelude.{ℕ, ℤ, pos, Bool, false, ◌==◌, nat_lt, if◌then◌else◌, Option, Some, None, option_map, option_and_then, List, [], ◌∷◌, length, codes}
-use Rattle.std.specs.Char.{is_ascii_digit}
-use Rattle.std.specs.List.{list_all, before_first, after_first, position_or_len}
+use Rattle.std.specs.Prelude.{ℕ, Bool, ◌==◌, nat_lt, if◌then◌else◌, Option, Some, None, option_map, option_and_then, List, [], ◌∷◌, length, codes}
+use Rattle.std.specs.List.{before_first, after_first, position_or_len}
 use Rattle.std.specs.Option.{option_or}
 use Rattle.std.specs.Result.{result_ok}
 use Rattle.std.specs.Str.{bytes_eq}
@@ -11,7 +10,7 @@ use Rattle.cell_refs.specs.declared.references.RefText.{RefText}
 use Rattle.cell_refs.specs.RefText.{cell_at}
 use Rattle.cell_refs.specs.Written.{reference_at}
 use Rattle.cell_values.specs.Coercion.{truth_of_text}
-use Rattle.cell_values.specs.Digits.{whole_number, below_zero}
+use Rattle.cell_values.specs.Digits.{has_number_form, number_of_digits}
 use Rattle.cell_values.specs.Word.{kind_of_word, text_of_bytes}
 use Rattle.formula_parse.specs.Parsing.{formula_of}
 use Rattle.workbook.specs.declared.contents.Content.{Content}
@@ -44,21 +43,6 @@ whole_cell text (Some found) = if found.1 == length text then Some (cell_at foun
 abbrev pub cell_of : List ℕ → Option Cell
 cell_of text = whole_cell text (reference_at text)
 
--- whether bytes are one or more decimal digits
-abbrev pub are_digits : List ℕ → Bool
-are_digits [] = false
-are_digits (b ∷ bs) = list_all is_ascii_digit (b ∷ bs)
-
--- whether a word has the form of a number: an optional `-` and digits
-abbrev pub has_number_form : List ℕ → Bool
-has_number_form [] = false
-has_number_form (b ∷ bs) = if b == 45 then are_digits bs else are_digits (b ∷ bs)
-
--- the number that such a word says, where it is within the magnitude
-abbrev pub number_said : List ℕ → Option ℤ
-number_said [] = None
-number_said (b ∷ bs) = if b == 45 then option_map below_zero (whole_number bs) else option_map pos (whole_number (b ∷ bs))
-
 -- `TRUE` or `FALSE`, in any case
 abbrev pub truth_said : List ℕ → Option Bool
 truth_said word = result_ok (truth_of_text word)
@@ -67,7 +51,7 @@ truth_said word = result_ok (truth_of_text word)
 abbrev pub constant_of : List ℕ → Option Content
 constant_of word =
     if has_number_form word
-    then option_map contents.Num (number_said word)
+    then option_map contents.Num (number_of_digits word)
     else option_or (option_map contents.Bool (truth_said word))
     (option_or (option_map contents.Error (kind_of_word word)) (option_map contents.Text (text_of_bytes word)))
 
