@@ -16,7 +16,7 @@ use Rattle.formula_parse.specs.Lexing.{token_at}
 use Rattle.formula_parse.specs.ReaderMachine.{Turn, reader_behind, first_reader, awaits_operand, is_too_deep, calls_open}
 use Rattle.formula_parse.specs.Tokens.{IsSpelled, Writes, are_spaces, goes_on, goes_on_with}
 use Rattle.formula_parse.proofs.Completing.{closes, closed_behind, operand_closed, one_written, closes_end, closes_spell, gap_closes_spell}
-use Rattle.formula_parse.proofs.LexingLaws.{written_is_found}
+use Rattle.formula_parse.proofs.LexFacts.LexingLaws.{written_is_found}
 use Rattle.formula_parse.proofs.Machine.{first_turn, ran}
 use Rattle.formula_parse.proofs.MachineLaws.{what_is_written_is_read, open_is_counted}
 use Rattle.formula_parse.proofs.Outcomes.{IsStuck, EndsDeep}

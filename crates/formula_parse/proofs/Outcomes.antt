@@ -13,7 +13,7 @@ use Rattle.formula_parse.specs.declared.tokens.Token.{Token}
 use Rattle.formula_parse.specs.Lexing.{token_at}
 use Rattle.formula_parse.specs.ReaderMachine.{Turn, Answer, Onward, turn_at, reader_behind, is_too_deep, tree_at_end, at_end, begun_behind, gap_len, read_from, read_token, read_found, read_on, answer_behind}
 use Rattle.formula_parse.specs.Tokens.{Writes, are_spaces, goes_on_with}
-use Rattle.formula_parse.proofs.LexingLaws.{found_is_written}
+use Rattle.formula_parse.proofs.LexFacts.LexingLaws.{found_is_written}
 use Rattle.formula_parse.proofs.TokenReads.{Reads, is_full}
 
 -- the token at the front of a text, if there is one, can't stand behind the reader

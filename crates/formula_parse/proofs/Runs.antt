@@ -10,7 +10,7 @@ use Rattle.formula_parse.specs.Faults.{IsUnlimitedFormula}
 use Rattle.formula_parse.specs.Lexing.{token_at}
 use Rattle.formula_parse.specs.ReaderMachine.{Turn, turn_at, reader_behind, tree_at_end, first_reader}
 use Rattle.formula_parse.specs.Tokens.{is_wide_area, is_large_number, IsSpelled, are_spaces}
-use Rattle.formula_parse.proofs.LexingLaws.{written_is_found}
+use Rattle.formula_parse.proofs.LexFacts.LexingLaws.{written_is_found}
 use Rattle.formula_parse.proofs.Machine.{ran}
 use Rattle.formula_parse.proofs.MachineLaws.{what_is_read_is_written}
 use Rattle.formula_parse.proofs.TokenReads.{Reads, is_full, piece_is_full, full_front, no_spaces, same_gap, spelled_by}

@@ -13,7 +13,7 @@ use Rattle.formula_parse.specs.Lexing.{token_at, begun_len}
 use Rattle.formula_parse.specs.ReaderMachine.{Turn, turn_at, first_reader, awaits_operand, begun_behind}
 use Rattle.formula_parse.specs.Tokens.{IsSpelled, Writes, are_spaces, goes_on_with}
 use Rattle.formula_parse.proofs.Completing.{closes, closing_viable, operand_viable, viable_front, one_written}
-use Rattle.formula_parse.proofs.LexingLaws.{begun_is_within, begun_goes_on, no_operand_goes_on, no_operator_goes_on}
+use Rattle.formula_parse.proofs.LexFacts.LexingLaws.{begun_is_within, begun_goes_on, no_operand_goes_on, no_operator_goes_on}
 use Rattle.formula_parse.proofs.Machine.{ran, is_operand}
 use Rattle.formula_parse.proofs.MachineLaws.{what_is_written_is_read, operands_are_taken}
 use Rattle.formula_parse.proofs.Marks.{marks_begin_nothing}

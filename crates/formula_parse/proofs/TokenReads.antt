@@ -12,7 +12,7 @@ use Rattle.cell_values.specs.declared.comparison.CompareOp.TheVariants as compar
 use Rattle.formula_parse.specs.Lexing.{token_at}
 use Rattle.formula_parse.specs.ReaderMachine.{reader_behind, is_too_deep}
 use Rattle.formula_parse.specs.Tokens.{Writes, IsSpelled, are_spaces, goes_on, goes_on_with}
-use Rattle.formula_parse.proofs.LexingLaws.{written_is_found}
+use Rattle.formula_parse.proofs.LexFacts.LexingLaws.{written_is_found}
 
 -- the reader reads these tokens, which are the front of a text before this rest, and nothing is too deep
 abbrev pub Reads : Reader → List ℕ → List ℕ → List Token → Reader → Type 0

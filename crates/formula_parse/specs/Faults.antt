@@ -2,6 +2,7 @@
 use Rattle.std.specs.Prelude.{◌≡◌, ◌⊎◌, ℕ, ◌<◌, ◌≤◌, Bool, true, false, List, [], ◌∷◌, ◌++◌, length, drop, take}
 use Rattle.std.specs.List.{list_any, count_by}
 use Rattle.std.specs.Str.{is_utf8, chars}
+use Rattle.formula_parse.specs.declared.limits.TheConstants.{LONGEST_FORMULA, MOST_CALLS, MOST_OPEN}
 use Rattle.formula_parse.specs.declared.nodes.Node.{Node}
 use Rattle.formula_parse.specs.declared.tokens.Token.{Token}
 use Rattle.formula_parse.specs.declared.tokens.Token.TheVariants as tokens
@@ -25,7 +26,7 @@ open_behind outer (other ∷ written) = open_behind outer written
 
 -- tokens leave more than 64 calls open, or more than 128 calls and parentheses together
 abbrev pub IsOverOpen : List Token → Type 0
-IsOverOpen written = (64 < count_by (λ is_call. is_call) (open_behind [] written)) ⊎ (128 < length (open_behind [] written))
+IsOverOpen written = (MOST_CALLS < count_by (λ is_call. is_call) (open_behind [] written)) ⊎ (MOST_OPEN < length (open_behind [] written))
 
 -- a formula begins with the first bytes of the text, and its tokens up to there leave too much open
 pub record IsTooDeep (text : List ℕ) : Type 0 where
@@ -51,7 +52,7 @@ pub record IsSyntaxPlace (text : List ℕ) (place : ℕ) : Type 0 where
 
 -- a text is UTF-8 of at most 8,192 characters
 abbrev pub IsShort : List ℕ → Type 0
-IsShort text = (is_utf8 text ≡ true) × (length (chars text) ≤ 8192)
+IsShort text = (is_utf8 text ≡ true) × (length (chars text) ≤ LONGEST_FORMULA)
 
 -- a text within the limits of length and depth
 abbrev pub IsShallow : List ℕ → Type 0

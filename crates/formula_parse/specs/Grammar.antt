@@ -1,5 +1,6 @@
 -- The grammar of formulas: which tokens each part of a tree is written with.
 use Rattle.std.specs.Prelude.{◌≡◌, ◌⊎◌, ℕ, suc, ◌<◌, ◌≤◌, List, [], ◌∷◌, ◌++◌, map, length}
+use Rattle.functions.specs.declared.limits.TheConstants.{MOST_ARGUMENTS}
 use Rattle.formula_parse.specs.declared.nodes.Node.{Node}
 use Rattle.formula_parse.specs.declared.nodes.Node.TheFolds.{rec-Node}
 use Rattle.formula_parse.specs.declared.nodes.Node.TheOpen.{Node-F}
@@ -73,7 +74,7 @@ written_step X node part (layer.Error e) place written = IsOne place (tokens.Err
 written_step X node part (layer.Boolean b) place written = IsOne place (tokens.Boolean b) written
 written_step X node part (layer.Reference r) place written = IsOne place (tokens.Reference r) written
 written_step X node part (layer.Area a b) place written = IsOne place (tokens.Area a b) written
-written_step X node part (layer.Call callee arguments) place written = (length arguments ≤ 255) × IsSigned place 0 (IsEnclosed (tokens.Call callee) (AreArguments (map part arguments))) written
+written_step X node part (layer.Call callee arguments) place written = (length arguments ≤ MOST_ARGUMENTS) × IsSigned place 0 (IsEnclosed (tokens.Call callee) (AreArguments (map part arguments))) written
 written_step X node part (layer.Parentheses inner) place written = IsSigned place 0 (IsEnclosed tokens.Open (part inner 0)) written
 written_step X node part (layer.Negation count operand) place written = (place ≤ 4) × (0 < count) × IsSigned place count (part operand 5) written
 written_step X node part (layer.Chain operands ops) place written = IsChainAt place (map part operands) ops written

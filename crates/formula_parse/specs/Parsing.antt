@@ -5,12 +5,13 @@ use Rattle.std.specs.Str.{is_utf8, chars}
 use Rattle.std.specs.Result.{result_ok}
 use Rattle.formula_parse.specs.declared.faults.ParseFault.{ParseFault}
 use Rattle.formula_parse.specs.declared.faults.ParseFault.TheVariants as faults
+use Rattle.formula_parse.specs.declared.limits.TheConstants.{LONGEST_FORMULA}
 use Rattle.formula_parse.specs.declared.nodes.Node.{Node}
 use Rattle.formula_parse.specs.ReaderMachine.{read_text}
 
 -- whether a text has over 8,192 characters
 abbrev pub is_too_long : List ℕ → Bool
-is_too_long text = nat_lt 8192 (length (chars text))
+is_too_long text = nat_lt LONGEST_FORMULA (length (chars text))
 
 -- the tree of the formula that a text is, or the first fault of the text
 unfoldable pub parse_result : List ℕ → Result Node ParseFault

@@ -6,10 +6,12 @@ use Rattle.std.specs.Str.Parse.{IsNumeral, digits_value}
 use Rattle.cell_refs.specs.Area.{area_of, size_of}
 use Rattle.cell_refs.specs.Written.{reference_at, capitals}
 use Rattle.cell_values.specs.declared.comparison.CompareOp.TheVariants as compare
+use Rattle.cell_values.specs.declared.limits.TheConstants.{LARGEST_NUMBER}
 use Rattle.cell_values.specs.Error.{error_word}
 use Rattle.cell_values.specs.Name.{is_name, is_name_byte}
 use Rattle.cell_values.specs.Word.{quotation_of}
 use Rattle.formula_parse.specs.Callees.{callee_named}
+use Rattle.formula_parse.specs.declared.limits.TheConstants.{LARGEST_AREA}
 use Rattle.formula_parse.specs.declared.operators.Operator.{Operator}
 use Rattle.formula_parse.specs.declared.operators.Operator.TheVariants as operators
 use Rattle.formula_parse.specs.declared.tokens.Token.{Token}
@@ -54,12 +56,12 @@ Writes piece (tokens.Operator op) = piece ≡ operator_text op
 
 -- whether a token is an area of over 65,536 cells
 abbrev pub is_wide_area : Token → Bool
-is_wide_area (tokens.Area a b) = nat_lt 65536 (size_of (area_of a b 1))
+is_wide_area (tokens.Area a b) = nat_lt LARGEST_AREA (size_of (area_of a b 1))
 is_wide_area other = false
 
 -- whether a token is a number over 999,999,999,999,999
 abbrev pub is_large_number : Token → Bool
-is_large_number (tokens.Number n) = int_lt (pos 999999999999999) n
+is_large_number (tokens.Number n) = int_lt (pos LARGEST_NUMBER) n
 is_large_number other = false
 
 -- whether a byte goes on with a name or makes it a call: a letter, a digit, `.`, `_` or `(`

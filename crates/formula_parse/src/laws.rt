@@ -10,6 +10,9 @@ ghost use Rattle.formula_parse.specs.Faults.{IsFormula, IsShort, IsTooDeep, IsSy
 ghost use Rattle.formula_parse.specs.Printing.{canonical_text};
 ghost use Rattle.formula_parse.specs.Parsing.{formula_of, parse_result};
 
+use super::limits::LARGEST_AREA;
+use cell_refs::SHEETS;
+
 /// Reading a text from left to right gives exactly the tree that the grammar lets it write.
 pub fn reading_gives_what_is_written()
     ensures { (text : List ℕ) (tree : Node) → IsFormula text tree ↔ (formula_of text ≡ Some tree) }
@@ -41,8 +44,8 @@ pub fn what_is_printed_reads_back()
 /// What a tree names lies inside the grid, and it has no more sites than a `u16` counts.
 pub fn trees_are_within_limits()
     ensures small { (tree : Node) (home : ℕ) → IsTree tree
-        → All (λ area. size_of area ≤ 65536) (areas_named tree home) }
-    ensures inside { (tree : Node) (home : ℕ) → IsTree tree → 1 ≤ home → home ≤ 64
+        → All (λ area. size_of area ≤ LARGEST_AREA) (areas_named tree home) }
+    ensures inside { (tree : Node) (home : ℕ) → IsTree tree → 1 ≤ home → home ≤ SHEETS
         → All IsArea (areas_named tree home) }
     ensures sites { (tree : Node) → IsTree tree → site_count tree ≤ 65535 }
 {}

@@ -6,6 +6,7 @@ mod faults;
 mod growing;
 mod laws;
 mod lexing;
+mod limits;
 mod naming;
 mod nodes;
 mod operators;
@@ -24,6 +25,7 @@ pub use laws::{
     a_text_has_one_tree, each_fault_has_its_cause, reading_gives_what_is_written,
     trees_are_within_limits, what_is_printed_reads_back,
 };
+pub use limits::{LARGEST_AREA, LONGEST_FORMULA, MOST_CALLS, MOST_OPEN};
 pub use naming::{CallTest, any_call, has_rtd_call, names, sites};
 pub use nodes::Node;
 pub use operators::Operator;

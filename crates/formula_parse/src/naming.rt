@@ -6,9 +6,10 @@ ghost use Rattle.formula_parse.specs.declared.callees.Callee.{Callee};
 ghost use Rattle.formula_parse.specs.Tree.{areas_named, calls_of, concat, has_rtd_call, site_count, sites_named};
 
 use super::callees::Callee;
+use super::limits::LARGEST_AREA;
 use super::nodes::Node;
 use super::trees::Tree;
-use cell_refs::Area;
+use cell_refs::{Area, SHEETS};
 use cell_values::Memory;
 use std::alloc::Global;
 
@@ -16,8 +17,8 @@ use std::alloc::Global;
 /// left to right, in branches that are taken or not.
 pub fn names(alloc: Global, t: &Tree, home: u8) -> Result<Vec<Area>, Memory>
     ensures areas { IfOk result (λ areas. areas.items ≡ areas_named t.now home) }
-    ensures inside { (1 ≤ home) × (home ≤ 64) → IfOk result (λ areas. All IsArea areas.items) }
-    ensures small { IfOk result (λ areas. All (λ area. size_of area ≤ 65536) areas.items) }
+    ensures inside { (1 ≤ home) × (home ≤ SHEETS) → IfOk result (λ areas. All IsArea areas.items) }
+    ensures small { IfOk result (λ areas. All (λ area. size_of area ≤ LARGEST_AREA) areas.items) }
 {
     let mut areas = Vec::new(alloc);
     push_areas(t.root(), home, &mut areas)?;

@@ -8,20 +8,19 @@ ghost use Rattle.formula_parse.specs.Turns.{IsReadUpTo};
 
 use super::faults::ParseFault;
 use super::lexing::{begun_len, stands_at, token_at};
+use super::limits::LONGEST_FORMULA;
 use super::nodes::Node;
 use super::reader::Reader;
 use super::trees::Tree;
 use std::alloc::Global;
-
-/// The greatest number of characters of a formula.
-const CHARACTERS: usize = 8_192;
 
 /// The tree of the formula that the text is.
 #[tactic(auto, unfolding(crate::specs::Parsing::parse_result))]
 pub fn parse(alloc: Global, text: &str) -> Result<Tree, ParseFault>
     ensures ok { IfOk result (λ tree. IsFormula text.now tree) }
     ensures read { IfOk result (λ tree. formula_of text.now ≡ Some tree) }
-    ensures too_long { (result ≡ Err ParseFault.TooLong) ↔ (8192 < length (chars text.now)) }
+    ensures too_long { (result ≡ Err ParseFault.TooLong)
+        ↔ (LONGEST_FORMULA < length (chars text.now)) }
     ensures too_deep { result ≡ Err ParseFault.TooDeep → IsShort text.now × IsTooDeep text.now }
     ensures syntax { (place : ℕ) → result ≡ Err (ParseFault.Syntax place)
         → IsSyntaxFault text.now place }
@@ -40,7 +39,7 @@ pub fn parse(alloc: Global, text: &str) -> Result<Tree, ParseFault>
 fn has_too_many_characters(text: &str) -> bool
     ensures { result ≡ is_too_long text.now }
 {
-    text.chars().count() > CHARACTERS
+    text.chars().count() > LONGEST_FORMULA
 }
 
 /// The tree of the formula, whatever its length in characters.

@@ -10,6 +10,7 @@ ghost use Rattle.formula_parse.specs.Tokens.{is_wide_area, is_large_number};
 
 use super::callees::Callee;
 use super::growing::Growing;
+use super::limits::{LARGEST_AREA, MOST_CALLS, MOST_OPEN};
 use super::nodes::Node;
 use super::operators::Operator;
 use super::stack::Stack;
@@ -17,14 +18,8 @@ use super::tokens::Token;
 use cell_refs::Area;
 use std::alloc::{AllocError, Global};
 
-/// The most cells of an area.
-const CELLS: u64 = 65_536;
 /// The greatest number of a formula.
 const GREATEST: i64 = 999_999_999_999_999;
-/// The most calls, and the most calls and parentheses together, that may be open.
-const CALLS: usize = 64;
-
-const DEPTH: usize = 128;
 
 /// A chain that goes on: each of its operands is followed by an operator of one place of the grammar.
 #[derive(Debug, Drop)]
@@ -113,7 +108,7 @@ impl Reader {
     pub(crate) fn is_too_deep(&self) -> bool
         ensures { result ≡ is_too_deep self.now.frames }
     {
-        CALLS < calls_open(&self.frames) || DEPTH + 1 < self.frames.len()
+        MOST_CALLS < calls_open(&self.frames) || MOST_OPEN + 1 < self.frames.len()
     }
 
     /// The formula's tree, where it may end here.
@@ -168,7 +163,7 @@ fn is_wide_area(token: &Token) -> bool
     ensures { result ≡ is_wide_area token.now }
 {
     match token {
-        Token::Area(a, b) => CELLS < Area::of(a, b, 1).size(),
+        Token::Area(a, b) => LARGEST_AREA < Area::of(a, b, 1).size(),
         _ => false,
     }
 }

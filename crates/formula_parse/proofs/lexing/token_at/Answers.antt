@@ -1,7 +1,7 @@
 use Rattle.std.proofs.Common.{Ok, inl, inr, ⊎_elim, arith, ap, sym, ◌∙◌}
 use Rattle.std.proofs.lemmas.Str.{IsCharBoundary-after_ascii}
 use Rattle.formula_parse.specs.Lexing.{text_behind}
-use Rattle.formula_parse.proofs.CodeTokens.{byte_at, text_stands}
+use Rattle.formula_parse.proofs.CodeFacts.CodeTokens.{byte_at, text_stands}
 use Rattle.formula_parse.proofs.lexing.token_at.Goals as goal
 
 pub range_from-requires : goal.range_from-requires

@@ -1,6 +1,6 @@
 use Rattle.std.proofs.Common.{get_or, arith}
 use Rattle.std.proofs.lemmas.Int.Digits.{digits_value_more}
-use Rattle.formula_parse.proofs.CodeDigits.{digit_at, from_digit}
+use Rattle.formula_parse.proofs.CodeFacts.CodeDigits.{digit_at, from_digit}
 use Rattle.formula_parse.proofs.lexing.value.Goals as goal
 
 pub overflow_sub-byte : goal.overflow_sub-byte

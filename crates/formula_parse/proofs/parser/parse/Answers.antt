@@ -1,8 +1,8 @@
 use Rattle.std.proofs.Common.{◌≡◌, Ok, Err, IfOk, Result, refl, sym, ◌∙◌}
 use Rattle.formula_parse.specs.declared.faults.ParseFault.{ParseFault}
 use Rattle.formula_parse.specs.declared.nodes.Node.{Node}
-use Rattle.formula_parse.proofs.CodeBytes.{short_text}
-use Rattle.formula_parse.proofs.CodeFaults.{not_said}
+use Rattle.formula_parse.proofs.CodeFacts.CodeBytes.{short_text}
+use Rattle.formula_parse.proofs.CodeFacts.CodeFaults.{not_said}
 use Rattle.formula_parse.proofs.ParseLaws.{exact_if_short, ok_clause, read_clause, deep_clause, syntax_clause, range_clause, number_clause}
 use Rattle.formula_parse.proofs.parser.parse.Goals as goal
 

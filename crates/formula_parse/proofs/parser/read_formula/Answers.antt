@@ -3,9 +3,9 @@ use Rattle.std.proofs.lemmas.Result.{err_from_is_err_and}
 use Rattle.formula_parse.specs.Lexing.{passes_at}
 use Rattle.formula_parse.specs.ReaderMachine.{read_text}
 use Rattle.formula_parse.proofs.Causes.{read_ok}
-use Rattle.formula_parse.proofs.CodeBytes.{bytes_of_short}
-use Rattle.formula_parse.proofs.CodeLengths.{passes_within}
-use Rattle.formula_parse.proofs.CodeLoop.{begins, begins_not, end_answers, end_reads, token_faults, token_reads, turns_end}
+use Rattle.formula_parse.proofs.CodeFacts.CodeBytes.{bytes_of_short}
+use Rattle.formula_parse.proofs.CodeFacts.CodeLengths.{passes_within}
+use Rattle.formula_parse.proofs.CodeFacts.CodeLoop.{begins, begins_not, end_answers, end_reads, token_faults, token_reads, turns_end}
 use Rattle.formula_parse.proofs.parser.read_formula.Goals as goal
 
 pub returns-then-not-stands_at : goal.returns-then-not-stands_at

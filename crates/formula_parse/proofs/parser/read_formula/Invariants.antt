@@ -1,5 +1,5 @@
 use Rattle.formula_parse.specs.Turns.{IsReadUpTo}
-use Rattle.formula_parse.proofs.CodeLoop.{Reads}
+use Rattle.formula_parse.proofs.CodeFacts.CodeLoop.{Reads}
 use Rattle.formula_parse.proofs.parser.read_formula.Given as goal
 
 abbrev pub invariant-loop : goal.invariant-loop

@@ -1,9 +1,9 @@
 use Rattle.std.proofs.Common.{◌≡◌, cond, drop, Some, None, inr, length-drop, arith, ap, sym, ◌∙◌}
 use Rattle.formula_parse.specs.Lexing.{token_at}
 use Rattle.formula_parse.specs.ReaderMachine.{reader_behind}
-use Rattle.formula_parse.proofs.CodeLengths.{token_within}
-use Rattle.formula_parse.proofs.CodeReading.{no_token, no_turn, too_deep_turn, onward_turn, answered}
-use Rattle.formula_parse.proofs.CodeTurns.{one_more}
+use Rattle.formula_parse.proofs.CodeFacts.CodeLengths.{token_within}
+use Rattle.formula_parse.proofs.CodeFacts.CodeReading.{no_token, no_turn, too_deep_turn, onward_turn, answered}
+use Rattle.formula_parse.proofs.CodeFacts.CodeTurns.{one_more}
 use Rattle.formula_parse.proofs.parser.read_token.Goals as goal
 
 pub returns-in_default-clause-err : goal.returns-in_default-clause-err

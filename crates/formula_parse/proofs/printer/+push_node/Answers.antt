@@ -1,7 +1,7 @@
 use Rattle.std.proofs.Common.{◌≡◌, ◌++◌, ◌∷◌, [], map, length, take, drop, ◌-◌, OnOk, ap, ◌∙◌, subst}
 use Rattle.std.specs.List.{flat_map}
 use Rattle.formula_parse.specs.Printing.{token_text, tokens_of}
-use Rattle.formula_parse.proofs.Printing.{behind_commas, arguments_begin, negation_text, kept_on}
+use Rattle.formula_parse.proofs.PrintFacts.Printing.{behind_commas, arguments_begin, negation_text, kept_on}
 use Rattle.formula_parse.proofs.printer.+push_node.Goals as goal
 
 pub push_arguments-loop-node-init : goal.push_arguments-loop-node-init

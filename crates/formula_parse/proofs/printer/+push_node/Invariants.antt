@@ -1,7 +1,7 @@
 use Rattle.std.proofs.Common.{◌≡◌, ◌++◌, map, take, drop, vec_len}
 use Rattle.std.specs.List.{flat_map}
 use Rattle.formula_parse.specs.Printing.{token_text, tokens_of, argument_tokens, chain_tokens}
-use Rattle.formula_parse.proofs.Printing.{behind_commas}
+use Rattle.formula_parse.proofs.PrintFacts.Printing.{behind_commas}
 use Rattle.formula_parse.proofs.printer.+push_node.Given as goal
 
 abbrev pub invariant-push_arguments-loop-node : goal.invariant-push_arguments-loop-node

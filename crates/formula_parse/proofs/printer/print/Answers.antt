@@ -1,5 +1,5 @@
 use Rattle.formula_parse.proofs.Causes.{formula_back}
-use Rattle.formula_parse.proofs.Printed.{printed_reads_back}
+use Rattle.formula_parse.proofs.PrintFacts.Printed.{printed_reads_back}
 use Rattle.formula_parse.proofs.printer.print.Goals as goal
 
 pub returns-then-is_err-clause-again : goal.returns-then-is_err-clause-again

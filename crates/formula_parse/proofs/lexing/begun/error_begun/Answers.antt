@@ -4,7 +4,7 @@ use Rattle.cell_values.specs.declared.errors.ErrorKind.{ErrorKind}
 use Rattle.cell_values.specs.declared.errors.ErrorKind.TheVariants as errors
 use Rattle.cell_values.specs.Error.{error_word}
 use Rattle.formula_parse.specs.Lexing.{all_errors, greatest, common_len}
-use Rattle.formula_parse.proofs.CodeWords.{greatest_more, max_is}
+use Rattle.formula_parse.proofs.CodeFacts.CodeWords.{greatest_more, max_is}
 use Rattle.formula_parse.proofs.lexing.begun.error_begun.Goals as goal
 
 pub loop-kind-preserved : goal.loop-kind-preserved

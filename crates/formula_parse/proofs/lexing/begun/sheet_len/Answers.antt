@@ -1,6 +1,6 @@
 use Rattle.std.proofs.Common.{◌≡◌, ◌-◌, length, take, drop, take_all, length-drop, arith, refl, sym, ◌∙◌}
 use Rattle.cell_refs.proofs.PublicLaws.{cut_digits}
-use Rattle.formula_parse.proofs.CodeSheets.{no_word, sheet_found, no_number, no_mark, both_parts, not_both, sheet_parts, not_sheet}
+use Rattle.formula_parse.proofs.CodeFacts.CodeSheets.{no_word, sheet_found, no_number, no_mark, both_parts, not_both, sheet_parts, not_sheet}
 use Rattle.formula_parse.proofs.lexing.begun.sheet_len.Goals as goal
 use Rattle.formula_parse.proofs.lexing.begun.sheet_len.Goals.{else-is_sheet-via-then-is_sheet+else-stands_at, else-is_sheet-via-else-is_sheet}
 

@@ -2,7 +2,7 @@ use Rattle.std.proofs.Common.{◌≡◌, ◌++◌, ◌∷◌, [], ◌+◌, ◌-�
 use Rattle.std.proofs.lemmas.Option.{MatchOption-at_some, MatchOption-at_none}
 use Rattle.std.proofs.lemmas.Str.Pattern.{split_parts, strip_prefix_char}
 use Rattle.std.specs.String.{string_bytes}
-use Rattle.formula_parse.proofs.CodeQuotes.{doubled, closed, unclosed, utf8_next}
+use Rattle.formula_parse.proofs.CodeFacts.CodeQuotes.{doubled, closed, unclosed, utf8_next}
 use Rattle.formula_parse.proofs.lexing.quotes.content.Goals as goal
 
 pub loop-before-preserved : goal.loop-before-preserved

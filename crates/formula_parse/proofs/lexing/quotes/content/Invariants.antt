@@ -2,7 +2,7 @@ use Rattle.std.proofs.Common.{◌≤◌, ◌-◌, length}
 use denote.Text.{Utf8}
 use denote.Shadow.{shadow}
 use Rattle.std.specs.String.{string_bytes}
-use Rattle.formula_parse.proofs.CodeQuotes.{IsDone}
+use Rattle.formula_parse.proofs.CodeFacts.CodeQuotes.{IsDone}
 use Rattle.formula_parse.proofs.lexing.quotes.content.Given as goal
 
 -- says that each `&str` the loop changes is text: keep it, and add clauses with ×

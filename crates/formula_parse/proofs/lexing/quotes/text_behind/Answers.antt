@@ -4,7 +4,7 @@ use Rattle.std.specs.List.{position}
 use Rattle.std.specs.Str.{chars}
 use Rattle.std.specs.String.{string_bytes}
 use Rattle.formula_parse.specs.Lexing.{content_at}
-use Rattle.formula_parse.proofs.CodeQuotes.{found_within, control_found, not_too_long}
+use Rattle.formula_parse.proofs.CodeFacts.CodeQuotes.{found_within, control_found, not_too_long}
 use Rattle.formula_parse.proofs.lexing.quotes.text_behind.Goals as goal
 
 pub overflow_add-result : goal.overflow_add-result

@@ -1,6 +1,6 @@
 use Rattle.std.proofs.Common.{eqb, length, ap, ◌∙◌}
 use Rattle.cell_refs.specs.Written.{capitals}
-use Rattle.formula_parse.proofs.CodeWords.{begins_by_len}
+use Rattle.formula_parse.proofs.CodeFacts.CodeWords.{begins_by_len}
 use Rattle.formula_parse.proofs.lexing.words.begins_with.Goals as goal
 
 pub returns : goal.returns

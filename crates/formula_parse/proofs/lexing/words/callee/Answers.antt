@@ -1,6 +1,6 @@
 use Rattle.std.proofs.Common.{◌≡◌, IfOk, ap, subst, ◌∙◌}
 use Rattle.cell_refs.specs.Written.{capitals}
-use Rattle.formula_parse.proofs.CodeNames.{callee_of_capitals, no_callee, not_name_capitals}
+use Rattle.formula_parse.proofs.CodeFacts.CodeNames.{callee_of_capitals, no_callee, not_name_capitals}
 use Rattle.formula_parse.proofs.lexing.words.callee.Goals as goal
 
 pub returns-in-Ok : goal.returns-in-Ok

@@ -1,5 +1,5 @@
 use Rattle.std.proofs.Common.{arith}
-use Rattle.formula_parse.proofs.CodeWords.{common_on, common_stop, common_end}
+use Rattle.formula_parse.proofs.CodeFacts.CodeWords.{common_on, common_stop, common_end}
 use Rattle.formula_parse.proofs.lexing.words.common_len.Goals as goal
 
 pub returns-then-word-place-clause-value : goal.returns-then-word-place-clause-value

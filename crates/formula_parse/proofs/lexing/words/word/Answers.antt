@@ -1,5 +1,5 @@
 use Rattle.std.proofs.Common.{Ok, inr, ap, sym, ◌∙◌}
-use Rattle.formula_parse.proofs.CodeNames.{no_call_mark, no_call_name, true_found, false_found}
+use Rattle.formula_parse.proofs.CodeFacts.CodeNames.{no_call_mark, no_call_name, true_found, false_found}
 use Rattle.formula_parse.proofs.lexing.words.word.Goals as goal
 use Rattle.formula_parse.proofs.lexing.words.word.Goals.{then-stands_at+in_ok-callee+in_default, else-stands_at}
 

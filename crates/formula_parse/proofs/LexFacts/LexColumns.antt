@@ -6,7 +6,7 @@ use Rattle.std.proofs.lemmas.Bool.{and_parts, and_from, and_left, cases_Bool, co
 use Rattle.std.proofs.lemmas.Option.{cond_some, option_and_then_some}
 use Rattle.cell_refs.specs.Reading.{number_at, mark_at, column_at, column_number}
 use Rattle.cell_refs.specs.Written.{capitals}
-use Rattle.formula_parse.proofs.LexRows.{Step, Column, RowMark, Row, column_after, row_after, next_step, run, letter_upper, column_step, column_step_parts, span_yes, span_no, letters, after_letters, number_forth, number_back}
+use Rattle.formula_parse.proofs.LexFacts.LexRows.{Step, Column, RowMark, Row, column_after, row_after, next_step, run, letter_upper, column_step, column_step_parts, span_yes, span_no, letters, after_letters, number_forth, number_back}
 
 -- what a column that is read consists of
 pub column_parts : (text : List ℕ) (column : ℕ) (rest : List ℕ) → column_at text ≡ Some (column, rest) → (0 < length (take_while is_ascii_uppercase text)) × (column_number (take_while is_ascii_uppercase text) ≤ 16384) × (column_number (take_while is_ascii_uppercase text) ≡ column) × (drop (length (take_while is_ascii_uppercase text)) text ≡ rest)

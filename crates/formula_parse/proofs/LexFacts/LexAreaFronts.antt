@@ -10,11 +10,11 @@ use Rattle.cell_refs.proofs.PublicLaws.{reference_capitals}
 use Rattle.formula_parse.specs.declared.tokens.Token.TheVariants as tokens
 use Rattle.formula_parse.specs.Lexing.{corner_begun, name_begun, reference_begun, plain_begun, passes_at}
 use Rattle.formula_parse.specs.Tokens.{Writes}
-use Rattle.formula_parse.proofs.LexCorners.{IsPlain, plain_goes_on, plain_most, plain_within}
-use Rattle.formula_parse.proofs.LexFronts.{compared}
-use Rattle.formula_parse.proofs.LexReferenceFronts.{reference_most}
-use Rattle.formula_parse.proofs.LexReferences.{reference_refers, reference_whole, reference_joined, piece_refers}
-use Rattle.formula_parse.proofs.LexWords.{passes_split, first_is, behind_colon}
+use Rattle.formula_parse.proofs.LexFacts.LexCorners.{IsPlain, plain_goes_on, plain_most, plain_within}
+use Rattle.formula_parse.proofs.LexFacts.LexFronts.{compared}
+use Rattle.formula_parse.proofs.LexFacts.LexReferenceFronts.{reference_most}
+use Rattle.formula_parse.proofs.LexFacts.LexReferences.{reference_refers, reference_whole, reference_joined, piece_refers}
+use Rattle.formula_parse.proofs.LexFacts.LexWords.{passes_split, first_is, behind_colon}
 
 -- what begins an area is no more than the text
 pub corner_within : (text : List ℕ) (o : Option (RefText × ℕ)) → corner_begun text o ≤ length text

@@ -13,10 +13,10 @@ use Rattle.cell_refs.proofs.PublicLaws.{reference_again, reference_capitals, she
 use Rattle.formula_parse.specs.declared.tokens.Token.TheVariants as tokens
 use Rattle.formula_parse.specs.Lexing.{sheet_len, reference_begun, plain_begun}
 use Rattle.formula_parse.specs.Tokens.{Writes}
-use Rattle.formula_parse.proofs.LexCorners.{IsPlain, plain_goes_on, plain_most, plain_within}
-use Rattle.formula_parse.proofs.LexPlain.{reference_parts, no_sheet, sheet_is}
-use Rattle.formula_parse.proofs.LexReferences.{reference_whole}
-use Rattle.formula_parse.proofs.LexWritten.{column_none, front_short}
+use Rattle.formula_parse.proofs.LexFacts.LexCorners.{IsPlain, plain_goes_on, plain_most, plain_within}
+use Rattle.formula_parse.proofs.LexFacts.LexPlain.{reference_parts, no_sheet, sheet_is}
+use Rattle.formula_parse.proofs.LexFacts.LexReferences.{reference_whole}
+use Rattle.formula_parse.proofs.LexFacts.LexWritten.{column_none, front_short}
 
 -- the sheet at the front of a text, where there is one
 record SheetFront (text : List ℕ) : Type 0 where

@@ -8,7 +8,7 @@ use Rattle.formula_parse.specs.declared.tokens.Token.{Token}
 use Rattle.formula_parse.specs.declared.tokens.Token.TheVariants as tokens
 use Rattle.formula_parse.specs.Lexing.{token_at, operator_at, operator_len, less_at, greater_at, passes_at}
 use Rattle.formula_parse.specs.Tokens.{Writes, goes_on, operator_text}
-use Rattle.formula_parse.proofs.LexFirst.{Found, found_as, first_passes, passes_seam, chosen, IsMark, at_mark, never}
+use Rattle.formula_parse.proofs.LexFacts.LexFirst.{Found, found_as, first_passes, passes_seam, chosen, IsMark, at_mark, never}
 
 -- an operator that stands at the front of a text
 abbrev Operates : List ℕ → Operator → Type 0

@@ -9,7 +9,7 @@ use Rattle.cell_values.specs.Word.{with_doubled_quotes, quotation_of}
 use Rattle.formula_parse.specs.declared.tokens.Token.{Token}
 use Rattle.formula_parse.specs.declared.tokens.Token.TheVariants as tokens
 use Rattle.formula_parse.specs.Lexing.{token_at, content_at, text_found}
-use Rattle.formula_parse.proofs.LexFirst.{Found, found_as, first_passes, chosen, at_quote}
+use Rattle.formula_parse.proofs.LexFacts.LexFirst.{Found, found_as, first_passes, chosen, at_quote}
 
 -- a closing `"` behind a content, with its length
 pub record Closes (text content : List ℕ) (n : ℕ) : Type 0 where

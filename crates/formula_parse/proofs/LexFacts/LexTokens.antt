@@ -4,14 +4,14 @@ use Rattle.formula_parse.specs.declared.tokens.Token.{Token}
 use Rattle.formula_parse.specs.declared.tokens.Token.TheVariants as tokens
 use Rattle.formula_parse.specs.Lexing.{token_at}
 use Rattle.formula_parse.specs.Tokens.{Writes, goes_on, is_word_byte}
-use Rattle.formula_parse.proofs.LexFirst.{Found, first_passes, by_first}
-use Rattle.formula_parse.proofs.LexErrors.{error_found, error_written}
-use Rattle.formula_parse.proofs.LexMarks.{mark_found, operator_written, open_written, close_written, comma_written}
-use Rattle.formula_parse.proofs.LexNumbers.{number_found, number_written}
-use Rattle.formula_parse.proofs.LexReferences.{piece_refers}
-use Rattle.formula_parse.proofs.LexTexts.{text_is_written, text_written}
-use Rattle.formula_parse.proofs.LexWords.{word_token_found, first_parts}
-use Rattle.formula_parse.proofs.LexWritten.{call_written, boolean_written, reference_written, area_written}
+use Rattle.formula_parse.proofs.LexFacts.LexFirst.{Found, first_passes, by_first}
+use Rattle.formula_parse.proofs.LexFacts.LexErrors.{error_found, error_written}
+use Rattle.formula_parse.proofs.LexFacts.LexMarks.{mark_found, operator_written, open_written, close_written, comma_written}
+use Rattle.formula_parse.proofs.LexFacts.LexNumbers.{number_found, number_written}
+use Rattle.formula_parse.proofs.LexFacts.LexReferences.{piece_refers}
+use Rattle.formula_parse.proofs.LexFacts.LexTexts.{text_is_written, text_written}
+use Rattle.formula_parse.proofs.LexFacts.LexWords.{word_token_found, first_parts}
+use Rattle.formula_parse.proofs.LexFacts.LexWritten.{call_written, boolean_written, reference_written, area_written}
 
 -- no token is found in no text
 none_at_end : (token : Token) (n : ℕ) → token_at [] ≡ Some (token, n) → ⊥

@@ -13,9 +13,9 @@ use Rattle.formula_parse.specs.declared.tokens.Token.TheVariants as tokens
 use Rattle.formula_parse.specs.Lexing.{token_at, passes_at, greater_at}
 use Rattle.formula_parse.specs.Printing.{token_text}
 use Rattle.formula_parse.specs.Tokens.{IsSpelled, Writes, goes_on, goes_on_with, is_word_byte, operator_text}
-use Rattle.formula_parse.proofs.LexingLaws.{written_is_found}
+use Rattle.formula_parse.proofs.LexFacts.LexingLaws.{written_is_found}
 use Rattle.formula_parse.proofs.NamingTokens.{Each, piece_long}
-use Rattle.formula_parse.proofs.PrintedFlow.{ends_operand, flows, is_awaited, is_behind, is_sign}
+use Rattle.formula_parse.proofs.PrintFacts.PrintedFlow.{ends_operand, flows, is_awaited, is_behind, is_sign}
 
 -- a token is written by its canonical text
 abbrev pub IsCanonical : Token → Type 0

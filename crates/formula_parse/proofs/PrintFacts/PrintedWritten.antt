@@ -7,7 +7,7 @@ use Rattle.formula_parse.specs.declared.tokens.Token.{Token}
 use Rattle.formula_parse.specs.Grammar.{Written, IsWritten, IsSigned, AreSigns, AreArguments, IsChain, IsChainAt, place_of}
 use Rattle.formula_parse.specs.Printing.{tokens_of, tokens_step, argument_tokens, chain_tokens}
 use Rattle.formula_parse.proofs.NodeLaws.{node_induction, fold_number, fold_text, fold_error, fold_boolean, fold_reference, fold_area, fold_call, fold_parentheses, fold_negation, fold_chain, number_is_written, text_is_written, error_is_written, boolean_is_written, reference_is_written, area_is_written, call_is_written, parentheses_is_written, negation_is_written, chain_is_written}
-use Rattle.formula_parse.proofs.PrintedThinned.{minus}
+use Rattle.formula_parse.proofs.PrintFacts.PrintedThinned.{minus}
 
 -- a tree is written with its own tokens wherever it is written
 abbrev WritesItself : Node → Type 0

@@ -14,7 +14,7 @@ use Rattle.cell_refs.specs.RefText.{IsReference}
 use Rattle.cell_refs.specs.Reading.{reference_in}
 use Rattle.cell_refs.specs.Written.{capitals, reference_at, mark, column_letters}
 use Rattle.cell_refs.proofs.PublicLaws.{reference_again, reference_takes, reference_capitals, sheet_capitals, letters_begin, numerals}
-use Rattle.formula_parse.proofs.LexFirst.{first_passes, begins_word}
+use Rattle.formula_parse.proofs.LexFacts.LexFirst.{first_passes, begins_word}
 
 -- a digit is one in upper case too
 digit_upper : (c : ℕ) → is_ascii_digit (to_ascii_uppercase c) ≡ is_ascii_digit c

@@ -7,13 +7,13 @@ use Rattle.formula_parse.specs.Faults.{IsFormula, IsTooDeep}
 use Rattle.formula_parse.specs.Printing.{canonical_text, token_text, tokens_of}
 use Rattle.formula_parse.specs.Tokens.{is_wide_area, is_large_number}
 use Rattle.formula_parse.proofs.NamingTokens.{Each, each_fails, each_spelled}
-use Rattle.formula_parse.proofs.PrintedDepth.{printed_shallow}
-use Rattle.formula_parse.proofs.PrintedFlow.{flows, tree_flows}
-use Rattle.formula_parse.proofs.PrintedPieces.{canonical}
-use Rattle.formula_parse.proofs.PrintedShort.{printed_short}
-use Rattle.formula_parse.proofs.PrintedSpelled.{IsCanonical, canonical_spelled}
-use Rattle.formula_parse.proofs.PrintedThinned.{tree_thins, thinned_each}
-use Rattle.formula_parse.proofs.PrintedWritten.{tree_writes}
+use Rattle.formula_parse.proofs.PrintFacts.PrintedDepth.{printed_shallow}
+use Rattle.formula_parse.proofs.PrintFacts.PrintedFlow.{flows, tree_flows}
+use Rattle.formula_parse.proofs.PrintFacts.PrintedPieces.{canonical}
+use Rattle.formula_parse.proofs.PrintFacts.PrintedShort.{printed_short}
+use Rattle.formula_parse.proofs.PrintFacts.PrintedSpelled.{IsCanonical, canonical_spelled}
+use Rattle.formula_parse.proofs.PrintFacts.PrintedThinned.{tree_thins, thinned_each}
+use Rattle.formula_parse.proofs.PrintFacts.PrintedWritten.{tree_writes}
 
 -- a test that each token fails
 none_passes : (test : Token → Bool) (written : List Token) → Each (λ token. test token ≡ false) written → list_any test written ≡ false

@@ -11,11 +11,11 @@ use Rattle.cell_refs.specs.RefText.{IsReference}
 use Rattle.cell_refs.specs.Written.{capitals}
 use Rattle.cell_refs.proofs.PublicLaws.{reference_again, reference_takes, reference_capitals}
 use Rattle.formula_parse.specs.Lexing.{column_begun, row_begun, mark_len, plain_begun, passes_at}
-use Rattle.formula_parse.proofs.LexFirst.{first_passes}
-use Rattle.formula_parse.proofs.LexLiving.{live, live_front, live_most, live_within, front_lives, front_joins, ending, column_live, behind_letters, behind_column, column_more, marked}
-use Rattle.formula_parse.proofs.LexPlain.{reference_forth, reference_back}
-use Rattle.formula_parse.proofs.LexRows.{Start, ColumnMark, Column, Row, next_step, run}
-use Rattle.formula_parse.proofs.LexWords.{passes_split}
+use Rattle.formula_parse.proofs.LexFacts.LexFirst.{first_passes}
+use Rattle.formula_parse.proofs.LexFacts.LexLiving.{live, live_front, live_most, live_within, front_lives, front_joins, ending, column_live, behind_letters, behind_column, column_more, marked}
+use Rattle.formula_parse.proofs.LexFacts.LexPlain.{reference_forth, reference_back}
+use Rattle.formula_parse.proofs.LexFacts.LexRows.{Start, ColumnMark, Column, Row, next_step, run}
+use Rattle.formula_parse.proofs.LexFacts.LexWords.{passes_split}
 
 -- the byte at a place is the first of the text from there on
 pub passes_drop : (p : ℕ → Bool) (text : List ℕ) (n : ℕ) → passes_at p text n ≡ first_passes p (drop n text)

@@ -19,9 +19,9 @@ use Rattle.formula_parse.specs.declared.tokens.Token.{Token}
 use Rattle.formula_parse.specs.declared.tokens.Token.TheVariants as tokens
 use Rattle.formula_parse.specs.Lexing.{token_at, word_at, word_found, reference_found, area_behind, passes_at}
 use Rattle.formula_parse.specs.Tokens.{is_word_byte, boolean_word}
-use Rattle.formula_parse.proofs.LexFirst.{first_passes, passes_first, passes_seam, at_word, begins_word}
-use Rattle.formula_parse.proofs.LexReferences.{reference_joined, reference_begins, reference_no_open}
-use Rattle.formula_parse.proofs.LexWords.{passes_split, first_parts, behind_colon, two_corners}
+use Rattle.formula_parse.proofs.LexFacts.LexFirst.{first_passes, passes_first, passes_seam, at_word, begins_word}
+use Rattle.formula_parse.proofs.LexFacts.LexReferences.{reference_joined, reference_begins, reference_no_open}
+use Rattle.formula_parse.proofs.LexFacts.LexWords.{passes_split, first_parts, behind_colon, two_corners}
 
 -- a letter begins a word, and can stand in a name
 letter_begins : (b : ℕ) → is_ascii_alphabetic b ≡ true → (begins_word b ≡ true) × (is_name_byte b ≡ true)

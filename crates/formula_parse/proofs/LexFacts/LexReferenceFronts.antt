@@ -15,10 +15,10 @@ use Rattle.cell_refs.specs.Written.{capitals}
 use Rattle.cell_refs.proofs.PublicLaws.{reference_capitals, sheet_capitals, numerals}
 use Rattle.cell_values.specs.Name.{is_name_byte}
 use Rattle.formula_parse.specs.Lexing.{name_begun, reference_begun}
-use Rattle.formula_parse.proofs.LexCorners.{IsPlain, plain_most}
-use Rattle.formula_parse.proofs.LexFronts.{compared}
-use Rattle.formula_parse.proofs.LexNameFronts.{name_most}
-use Rattle.formula_parse.proofs.LexSheetFronts.{behind_sheet, on_sheet, sheet_and, own_sheet, sheet_counted, reference_begun_is, plain_reference_most}
+use Rattle.formula_parse.proofs.LexFacts.LexCorners.{IsPlain, plain_most}
+use Rattle.formula_parse.proofs.LexFacts.LexFronts.{compared}
+use Rattle.formula_parse.proofs.LexFacts.LexNameFronts.{name_most}
+use Rattle.formula_parse.proofs.LexFacts.LexSheetFronts.{behind_sheet, on_sheet, sheet_and, own_sheet, sheet_counted, reference_begun_is, plain_reference_most}
 
 -- ---- the word and the number of a sheet
 -- a capital letter or a digit

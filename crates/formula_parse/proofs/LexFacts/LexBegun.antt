@@ -16,16 +16,16 @@ use Rattle.formula_parse.specs.declared.tokens.Token.TheVariants as tokens
 use Rattle.formula_parse.specs.Lexing.{token_at, begun_len, error_begun, word_begun, name_begun, reference_begun, corner_begun}
 use Rattle.formula_parse.specs.Tokens.{Writes, boolean_word}
 use Rattle.formula_parse.proofs.Machine.{is_operand}
-use Rattle.formula_parse.proofs.LexFirst.{by_first, IsMark, begins_word, word_is, at_quote}
-use Rattle.formula_parse.proofs.LexNumbers.{number_begins, numeral_first}
-use Rattle.formula_parse.proofs.LexErrors.{error_begins}
-use Rattle.formula_parse.proofs.LexReferences.{piece_refers, reference_begins}
-use Rattle.formula_parse.proofs.LexTextFronts.{clean_within, text_goes_on, text_most}
-use Rattle.formula_parse.proofs.LexErrorFronts.{error_begun_within, error_goes_on, error_most}
-use Rattle.formula_parse.proofs.LexNameFronts.{name_within, name_goes_on, boolean_most, call_most}
-use Rattle.formula_parse.proofs.LexSheetFronts.{reference_within, reference_goes_on}
-use Rattle.formula_parse.proofs.LexReferenceFronts.{reference_most}
-use Rattle.formula_parse.proofs.LexAreaFronts.{Begun, corner_within, area_goes_on, area_most}
+use Rattle.formula_parse.proofs.LexFacts.LexFirst.{by_first, IsMark, begins_word, word_is, at_quote}
+use Rattle.formula_parse.proofs.LexFacts.LexNumbers.{number_begins, numeral_first}
+use Rattle.formula_parse.proofs.LexFacts.LexErrors.{error_begins}
+use Rattle.formula_parse.proofs.LexFacts.LexReferences.{piece_refers, reference_begins}
+use Rattle.formula_parse.proofs.LexFacts.LexTextFronts.{clean_within, text_goes_on, text_most}
+use Rattle.formula_parse.proofs.LexFacts.LexErrorFronts.{error_begun_within, error_goes_on, error_most}
+use Rattle.formula_parse.proofs.LexFacts.LexNameFronts.{name_within, name_goes_on, boolean_most, call_most}
+use Rattle.formula_parse.proofs.LexFacts.LexSheetFronts.{reference_within, reference_goes_on}
+use Rattle.formula_parse.proofs.LexFacts.LexReferenceFronts.{reference_most}
+use Rattle.formula_parse.proofs.LexFacts.LexAreaFronts.{Begun, corner_within, area_goes_on, area_most}
 
 -- ---- by the first byte
 -- a `"` begins a text

@@ -15,9 +15,9 @@ use Rattle.formula_parse.specs.declared.tokens.Token.{Token}
 use Rattle.formula_parse.specs.declared.tokens.Token.TheVariants as tokens
 use Rattle.formula_parse.specs.Lexing.{token_at, name_begun}
 use Rattle.formula_parse.specs.Tokens.{Writes, boolean_word}
-use Rattle.formula_parse.proofs.LexFronts.{Beyond, compared, front_passes, short_passes, passing_short, passing_within}
-use Rattle.formula_parse.proofs.LexWords.{word_is_name}
-use Rattle.formula_parse.proofs.LexWritten.{call_written, letters_name}
+use Rattle.formula_parse.proofs.LexFacts.LexFronts.{Beyond, compared, front_passes, short_passes, passing_short, passing_within}
+use Rattle.formula_parse.proofs.LexFacts.LexWords.{word_is_name}
+use Rattle.formula_parse.proofs.LexFacts.LexWritten.{call_written, letters_name}
 
 -- what begins a name is no more than the text
 pub name_within : (text : List ℕ) → name_begun text ≤ length text

@@ -14,12 +14,12 @@ use Rattle.formula_parse.specs.Lexing.{token_at, begun_len}
 use Rattle.formula_parse.specs.ReaderMachine.{turn_at, awaits_operand, operator_turn}
 use Rattle.formula_parse.specs.Tokens.{Writes, goes_on, goes_on_with}
 use Rattle.formula_parse.proofs.Machine.{is_operand}
-use Rattle.formula_parse.proofs.LexBegun.{begun_within, goes_on_to_operand}
-use Rattle.formula_parse.proofs.LexFronts.{front_of_piece}
-use Rattle.formula_parse.proofs.LexTokens.{token_found, token_written}
-use Rattle.formula_parse.proofs.LexTurns.{no_longer_stands}
-use Rattle.formula_parse.proofs.LexFirst.{goes_on_first, first_passes}
-use Rattle.formula_parse.proofs.LexMarks.{operator_begins, close_written, comma_written}
+use Rattle.formula_parse.proofs.LexFacts.LexBegun.{begun_within, goes_on_to_operand}
+use Rattle.formula_parse.proofs.LexFacts.LexFronts.{front_of_piece}
+use Rattle.formula_parse.proofs.LexFacts.LexTokens.{token_found, token_written}
+use Rattle.formula_parse.proofs.LexFacts.LexTurns.{no_longer_stands}
+use Rattle.formula_parse.proofs.LexFacts.LexFirst.{goes_on_first, first_passes}
+use Rattle.formula_parse.proofs.LexFacts.LexMarks.{operator_begins, close_written, comma_written}
 
 -- what is found is written there, and nothing goes on with it
 pub found_is_written : (text : List ℕ) (token : Token) (n : ℕ) → token_at text ≡ Some (token, n) → (0 < n) × (n ≤ length text) × Writes (take n text) token × (goes_on_with token (drop n text) ≡ false)

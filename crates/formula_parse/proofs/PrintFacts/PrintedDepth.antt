@@ -12,11 +12,11 @@ use Rattle.formula_parse.specs.Grammar.{IsWritten}
 use Rattle.formula_parse.specs.Lexing.{token_at}
 use Rattle.formula_parse.specs.Printing.{token_text}
 use Rattle.formula_parse.specs.Tokens.{IsSpelled, Writes, are_spaces, goes_on_with}
-use Rattle.formula_parse.proofs.LexingLaws.{written_is_found, found_again}
+use Rattle.formula_parse.proofs.LexFacts.LexingLaws.{written_is_found, found_again}
 use Rattle.formula_parse.proofs.NamingTokens.{Each, piece_long}
-use Rattle.formula_parse.proofs.PrintedFlow.{ends_operand, flows}
-use Rattle.formula_parse.proofs.PrintedSpelled.{IsCanonical, stops, flows_on, same_found}
-use Rattle.formula_parse.proofs.PrintedThinned.{IsThinned, thinned_front, thinned_opens}
+use Rattle.formula_parse.proofs.PrintFacts.PrintedFlow.{ends_operand, flows}
+use Rattle.formula_parse.proofs.PrintFacts.PrintedSpelled.{IsCanonical, stops, flows_on, same_found}
+use Rattle.formula_parse.proofs.PrintFacts.PrintedThinned.{IsThinned, thinned_front, thinned_opens}
 
 -- ---- what a token opens and closes
 -- a token, and then others

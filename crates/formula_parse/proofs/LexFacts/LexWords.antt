@@ -17,9 +17,9 @@ use Rattle.formula_parse.specs.declared.tokens.Token.{Token}
 use Rattle.formula_parse.specs.declared.tokens.Token.TheVariants as tokens
 use Rattle.formula_parse.specs.Lexing.{token_at, word_found, reference_found, area_behind, passes_at}
 use Rattle.formula_parse.specs.Tokens.{is_word_byte, boolean_word}
-use Rattle.formula_parse.proofs.LexFirst.{Found, found_as, first_passes, passes_first, passes_seam, chosen, at_word, begins_word, never}
-use Rattle.formula_parse.proofs.LexNumbers.{all_pass}
-use Rattle.formula_parse.proofs.LexReferences.{Refers, reference_refers, reference_whole, reference_begins}
+use Rattle.formula_parse.proofs.LexFacts.LexFirst.{Found, found_as, first_passes, passes_first, passes_seam, chosen, at_word, begins_word, never}
+use Rattle.formula_parse.proofs.LexFacts.LexNumbers.{all_pass}
+use Rattle.formula_parse.proofs.LexFacts.LexReferences.{Refers, reference_refers, reference_whole, reference_begins}
 
 -- the byte at a place of a text, by its parts
 pub passes_split : (p : ℕ → Bool) (text front rest : List ℕ) (n : ℕ) → text ≡ front ++ rest → n ≡ length front → passes_at p text n ≡ first_passes p rest

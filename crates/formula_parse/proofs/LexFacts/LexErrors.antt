@@ -13,8 +13,8 @@ use Rattle.cell_values.specs.Error.{error_word}
 use Rattle.formula_parse.specs.declared.tokens.Token.{Token}
 use Rattle.formula_parse.specs.declared.tokens.Token.TheVariants as tokens
 use Rattle.formula_parse.specs.Lexing.{token_at, error_at, all_errors, begins_with}
-use Rattle.formula_parse.proofs.LexFirst.{Found, found_as, chosen, at_hash, never}
-use Rattle.formula_parse.proofs.LexTexts.{mapped_some}
+use Rattle.formula_parse.proofs.LexFacts.LexFirst.{Found, found_as, chosen, at_hash, never}
+use Rattle.formula_parse.proofs.LexFacts.LexTexts.{mapped_some}
 
 -- what is found passes the test
 find_passes : {X : Type 0} (p : X → Bool) (xs : List X) (x : X) → find p xs ≡ Some x → p x ≡ true

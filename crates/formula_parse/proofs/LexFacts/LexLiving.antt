@@ -6,8 +6,8 @@ use Rattle.std.proofs.lemmas.Bool.{cases_Bool, cond-true, cond-false, and_left}
 use Rattle.std.proofs.lemmas.Bool.Decides.{nat_tests}
 use Rattle.std.proofs.lemmas.Option.{option_and_then_some, same_Some}
 use Rattle.formula_parse.specs.Lexing.{column_begun, row_begun, mark_len}
-use Rattle.formula_parse.proofs.LexFirst.{passes_seam}
-use Rattle.formula_parse.proofs.LexRows.{Step, Start, ColumnMark, Column, RowMark, Row, column_after, next_step, run}
+use Rattle.formula_parse.proofs.LexFacts.LexFirst.{passes_seam}
+use Rattle.formula_parse.proofs.LexFacts.LexRows.{Step, Start, ColumnMark, Column, RowMark, Row, column_after, next_step, run}
 
 -- how many bytes of a text some reference goes on with
 abbrev pub live : Step → List ℕ → ℕ

@@ -22,7 +22,7 @@ use Rattle.formula_parse.specs.declared.tokens.Token.{Token}
 use Rattle.formula_parse.specs.declared.tokens.Token.TheVariants as tokens
 use Rattle.formula_parse.specs.Lexing.{token_at, number_at, content_at, text_found, text_behind, all_errors, begins_with, passes_at, area_behind, reference_found, word_found, less_at, greater_at, operator_at, operator_len, mark_at}
 use Rattle.formula_parse.specs.Tokens.{is_word_byte}
-use Rattle.formula_parse.proofs.CodeQuotes.{IsWithin, content_within}
+use Rattle.formula_parse.proofs.CodeFacts.CodeQuotes.{IsWithin, content_within}
 
 -- what is found has a length within the text
 abbrev pub IsFitting : List ℕ → Option (Token × ℕ) → Type 0

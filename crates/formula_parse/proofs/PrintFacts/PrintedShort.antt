@@ -12,8 +12,8 @@ use Rattle.formula_parse.specs.Faults.{IsShort}
 use Rattle.formula_parse.specs.Printing.{token_text}
 use Rattle.formula_parse.specs.Tokens.{IsSpelled, are_spaces}
 use Rattle.formula_parse.proofs.NamingTokens.{Each}
-use Rattle.formula_parse.proofs.PrintedPieces.{IsNoLonger, IsShorter, no_longer}
-use Rattle.formula_parse.proofs.PrintedThinned.{IsThinned}
+use Rattle.formula_parse.proofs.PrintFacts.PrintedPieces.{IsNoLonger, IsShorter, no_longer}
+use Rattle.formula_parse.proofs.PrintFacts.PrintedThinned.{IsThinned}
 
 -- ---- cutting UTF-8
 -- a text behind a part that ends where a character ends

@@ -10,8 +10,8 @@ use Rattle.std.proofs.lemmas.Option.{option_and_then_some, same_Some}
 use Rattle.cell_refs.specs.declared.references.RefText.{RefText}
 use Rattle.cell_refs.specs.Reading.{number_at, mark_at, column_at, column_number, rest_after, sheet_number_at, sheet_at, reference_in, ◌>>=◌}
 use Rattle.cell_refs.specs.Written.{capitals}
-use Rattle.formula_parse.proofs.LexRows.{Step, Start, ColumnMark, Column, Row, column_after, next_step, run, letter_upper, column_step_parts, span_yes, span_no, letters, after_letters}
-use Rattle.formula_parse.proofs.LexColumns.{column_parts, column_from, letter_fold, letter_is, letter_next, column_forth, column_back, mark_yes, mark_no, row_forth_from, row_back_from, few_letters}
+use Rattle.formula_parse.proofs.LexFacts.LexRows.{Step, Start, ColumnMark, Column, Row, column_after, next_step, run, letter_upper, column_step_parts, span_yes, span_no, letters, after_letters}
+use Rattle.formula_parse.proofs.LexFacts.LexColumns.{column_parts, column_from, letter_fold, letter_is, letter_next, column_forth, column_back, mark_yes, mark_no, row_forth_from, row_back_from, few_letters}
 
 -- a test that lets an answer through
 chosen_some : {A : Type 0} (b : Bool) (o : Option A) (x : A) → cond b o None ≡ Some x → (b ≡ true) × (o ≡ Some x)

@@ -12,7 +12,7 @@ use Rattle.formula_parse.specs.declared.tokens.Token.{Token}
 use Rattle.formula_parse.specs.declared.tokens.Token.TheVariants as tokens
 use Rattle.formula_parse.specs.Lexing.{token_at}
 use Rattle.formula_parse.specs.Tokens.{number_value}
-use Rattle.formula_parse.proofs.LexFirst.{Found, found_as, first_passes, passes_first, at_digit}
+use Rattle.formula_parse.proofs.LexFacts.LexFirst.{Found, found_as, first_passes, passes_first, at_digit}
 
 -- the test for digits
 tells_by_all : IsDigitsTest (λ ds. list_all is_ascii_digit ds ≡ true)

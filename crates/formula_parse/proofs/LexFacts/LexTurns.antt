@@ -13,12 +13,12 @@ use Rattle.formula_parse.specs.Lexing.{token_at, begun_len}
 use Rattle.formula_parse.specs.ReaderMachine.{turn_at, awaits_operand, operand_turn, start_turn}
 use Rattle.formula_parse.specs.Tokens.{Writes, operator_text}
 use Rattle.formula_parse.proofs.Machine.{is_operand}
-use Rattle.formula_parse.proofs.LexBegun.{operand_most, boolean_first, reference_first, area_first, call_first, text_first}
-use Rattle.formula_parse.proofs.LexErrors.{error_begins}
-use Rattle.formula_parse.proofs.LexFirst.{IsMark, never}
-use Rattle.formula_parse.proofs.LexMarks.{open_written, close_written, comma_written, operator_written}
-use Rattle.formula_parse.proofs.LexNumbers.{numeral_first}
-use Rattle.formula_parse.proofs.LexTokens.{token_found}
+use Rattle.formula_parse.proofs.LexFacts.LexBegun.{operand_most, boolean_first, reference_first, area_first, call_first, text_first}
+use Rattle.formula_parse.proofs.LexFacts.LexErrors.{error_begins}
+use Rattle.formula_parse.proofs.LexFacts.LexFirst.{IsMark, never}
+use Rattle.formula_parse.proofs.LexFacts.LexMarks.{open_written, close_written, comma_written, operator_written}
+use Rattle.formula_parse.proofs.LexFacts.LexNumbers.{numeral_first}
+use Rattle.formula_parse.proofs.LexFacts.LexTokens.{token_found}
 
 -- ---- turns
 -- an operand is taken where one is awaited

@@ -1,0 +1,25 @@
+-- Laws of the pieces of text that write tokens.
+pub mod LexAreaFronts
+pub mod LexBegun
+pub mod LexColumns
+pub mod LexCorners
+pub mod LexErrorFronts
+pub mod LexErrors
+pub mod LexFirst
+pub mod LexFronts
+pub mod LexLiving
+pub mod LexMarks
+pub mod LexNameFronts
+pub mod LexNumbers
+pub mod LexPlain
+pub mod LexReferenceFronts
+pub mod LexReferences
+pub mod LexRows
+pub mod LexSheetFronts
+pub mod LexTextFronts
+pub mod LexTexts
+pub mod LexTokens
+pub mod LexTurns
+pub mod LexWords
+pub mod LexWritten
+pub mod LexingLaws
