@@ -10,6 +10,7 @@ use Rattle.cell_eval.specs.declared.choices.Chooser.{Chooser}
 use Rattle.cell_eval.specs.declared.halts.Halt.{Halt}
 use Rattle.cell_eval.specs.declared.halts.Halt.TheVariants as halts
 use Rattle.cell_eval.specs.Choices.{chooser_answer}
+use Rattle.formula_parse.specs.declared.limits.TheConstants.{LARGEST_AREA}
 use Rattle.formula_parse.specs.declared.callees.Callee.{Callee}
 use Rattle.formula_parse.specs.declared.callees.Callee.TheVariants as callees
 use Rattle.formula_parse.specs.declared.nodes.Node.{Node}
@@ -84,7 +85,7 @@ sites_among (node ∷ nodes) = site_count node + sites_among nodes
 
 -- each area that a part names has at most 65,536 cells
 unfoldable pub NamesSmallAreas : ℕ → Node → Type 0
-NamesSmallAreas home node = All (λ area. size_of area ≤ 65536) (areas_named node home)
+NamesSmallAreas home node = All (λ area. size_of area ≤ LARGEST_AREA) (areas_named node home)
 
 -- why an evaluation went no further: there was no memory, or its answer is no value
 abbrev pub Halts : Answer → Halt → Type 0

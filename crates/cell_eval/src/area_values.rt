@@ -14,7 +14,7 @@ ghost use Rattle.cell_eval.specs.Steps.{NamesSmallAreas, area_at, taken_area};
 
 use cell_refs::{Area, Cell};
 use cell_values::{Memory, Value};
-use formula_parse::Node;
+use formula_parse::{LARGEST_AREA, Node};
 use functions::{Arg, Function, Values};
 use std::alloc::Global;
 
@@ -23,7 +23,7 @@ fn area_in(node: &Node, home: u8) -> Option<Area>
     ensures area { (world : World) → world.home ≡ home → result ≡ area_at world node.now }
     ensures sites { OnSome result (site_count node.now ≡ 0) }
     ensures small { NamesSmallAreas home node.now
-        → MatchOption result ⊤ (λ area. size_of area ≤ 65536) }
+        → MatchOption result ⊤ (λ area. size_of area ≤ LARGEST_AREA) }
     ensures formed { MatchOption result ⊤ (λ area. (area.top ≤ area.bottom)
         × (area.left ≤ area.right)) }
 {
@@ -40,7 +40,7 @@ pub fn area_taken(function: Function, place: usize, node: &Node, home: u8) -> Op
         → result ≡ taken_area (takes_area function place) (area_at world node.now) }
     ensures sites { OnSome result (site_count node.now ≡ 0) }
     ensures small { NamesSmallAreas home node.now
-        → MatchOption result ⊤ (λ area. size_of area ≤ 65536) }
+        → MatchOption result ⊤ (λ area. size_of area ≤ LARGEST_AREA) }
     ensures formed { MatchOption result ⊤ (λ area. (area.top ≤ area.bottom)
         × (area.left ≤ area.right)) }
 {
@@ -123,7 +123,7 @@ fn area_values(alloc: Global, inputs: &[(Cell, Value)], area: Area) -> Result<Ve
 /// An area as an argument.
 pub fn area_argument(alloc: Global, inputs: &[(Cell, Value)], area: Area) -> Result<Arg, Memory>
     requires ordered { IsStrictlySortedBy cell_cmp (keys_of inputs.now) }
-    requires small { size_of area ≤ 65536 }
+    requires small { size_of area ≤ LARGEST_AREA }
     requires formed { (area.top ≤ area.bottom) × (area.left ≤ area.right) }
     ensures argument { (world : World) → world.input ≡ input_of inputs.now
         → IfOk result (λ argument. argument ≡ area_input world area) }
