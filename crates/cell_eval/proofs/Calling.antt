@@ -39,10 +39,10 @@ pub built_in_outside : (world : World) (f : Function) (ns : List Node) (before :
 built_in_outside world f ns before e = by_count world f ns before false e
 
 -- a function that chooses
-pub built_in_chosen : (world : World) (f : Function) (chooser : Chooser) (ns : List Node) (before : ℕ) → is_within (arity_of f) (length ns) ≡ true → chooser_of f ≡ Some chooser → built_in_at world f ns before ≡ chooser_at world chooser ns before
+pub built_in_chosen : (world : World) (f : Function) (rule : Chooser) (ns : List Node) (before : ℕ) → is_within (arity_of f) (length ns) ≡ true → chooser_of f ≡ Some rule → built_in_at world f ns before ≡ chooser_at world rule ns before
 unfolding chooser_at
-built_in_chosen world f chooser ns before e is =
-    by_count world f ns before true e ∙ chooses world f chooser (arguments_at world ns before) is (ap (is_within (arity_of f)) (argument_count world ns before) ∙ e)
+built_in_chosen world f rule ns before e is =
+    by_count world f ns before true e ∙ chooses world f rule (arguments_at world ns before) is (ap (is_within (arity_of f)) (argument_count world ns before) ∙ e)
 
 -- another function
 other_function : (world : World) (f : Function) (arguments : List Argument) → chooser_of f ≡ None → function_answer world f arguments ≡ with_inputs world f 0 arguments (λ args. Val (result_of f args))

@@ -50,71 +50,71 @@ by_index (Err kind) options = refl
 by_index (Ok n) options = by_sign (int_lt (pos 0) n) n options
 
 -- a function that chooses, by the chooser, where it has as many arguments as it takes
-pub chooses : (world : World) (f : Function) (chooser : Chooser) (arguments : List Argument) → chooser_of f ≡ Some chooser → is_within (arity_of f) (length arguments) ≡ true → function_answer world f arguments ≡ chooser_answer chooser arguments
-chooses world functions.If chooser [] e within = absurd (cc)
-chooses world functions.If chooser (test ∷ []) e within = absurd (cc)
-chooses world functions.If chooser (test ∷ met ∷ unmet) e within =
-    let same : choosers.If ≡ chooser = cc in
+pub chooses : (world : World) (f : Function) (rule : Chooser) (arguments : List Argument) → chooser_of f ≡ Some rule → is_within (arity_of f) (length arguments) ≡ true → function_answer world f arguments ≡ chooser_answer rule arguments
+chooses world functions.If rule [] e within = absurd (cc)
+chooses world functions.If rule (test ∷ []) e within = absurd (cc)
+chooses world functions.If rule (test ∷ met ∷ unmet) e within =
+    let same : choosers.If ≡ rule = cc in
     then_with-same test.value (λ v. branch (truth_of v) met unmet) (λ v. chosen_answer (choice_by_truth (truth_of v) (suc (length unmet))) (met ∷ unmet)) (λ v. by_truth (truth_of v) met unmet)
     ∙ ap (λ c. chooser_answer c (test ∷ met ∷ unmet)) same
-chooses world functions.IfError chooser [] e within = absurd (cc)
-chooses world functions.IfError chooser (first ∷ []) e within = absurd (cc)
-chooses world functions.IfError chooser (first ∷ second ∷ others) e within =
-    let same : choosers.IfError ≡ chooser = cc in
+chooses world functions.IfError rule [] e within = absurd (cc)
+chooses world functions.IfError rule (first ∷ []) e within = absurd (cc)
+chooses world functions.IfError rule (first ∷ second ∷ others) e within =
+    let same : choosers.IfError ≡ rule = cc in
     then_with-same first.value (λ v. cond (is_error v) second.value (Val v)) (λ v. chosen_answer (cond (is_error v) (choices.Argument 0) (choices.Value v)) (second ∷ others)) (λ v. by_test (is_error v) v second others)
     ∙ ap (λ c. chooser_answer c (first ∷ second ∷ others)) same
-chooses world functions.IfNa chooser [] e within = absurd (cc)
-chooses world functions.IfNa chooser (first ∷ []) e within = absurd (cc)
-chooses world functions.IfNa chooser (first ∷ second ∷ others) e within =
-    let same : choosers.IfNa ≡ chooser = cc in
+chooses world functions.IfNa rule [] e within = absurd (cc)
+chooses world functions.IfNa rule (first ∷ []) e within = absurd (cc)
+chooses world functions.IfNa rule (first ∷ second ∷ others) e within =
+    let same : choosers.IfNa ≡ rule = cc in
     then_with-same first.value (λ v. cond (is_na v) second.value (Val v)) (λ v. chosen_answer (cond (is_na v) (choices.Argument 0) (choices.Value v)) (second ∷ others)) (λ v. by_test (is_na v) v second others)
     ∙ ap (λ c. chooser_answer c (first ∷ second ∷ others)) same
-chooses world functions.Choose chooser [] e within = absurd (cc)
-chooses world functions.Choose chooser (index ∷ options) e within =
-    let same : choosers.Choose ≡ chooser = cc in
+chooses world functions.Choose rule [] e within = absurd (cc)
+chooses world functions.Choose rule (index ∷ options) e within =
+    let same : choosers.Choose ≡ rule = cc in
     then_with-same index.value (λ v. choice_of (number_of v) options) (λ v. chosen_answer (choice_by_index (number_of v)) options) (λ v. by_index (number_of v) options)
     ∙ ap (λ c. chooser_answer c (index ∷ options)) same
-chooses world f chooser arguments e within = absurd (cc)
+chooses world f rule arguments e within = absurd (cc)
 
 -- ---- a function that chooses, behind so many sites
 -- with no argument
-pub chooser_none : (world : World) (chooser : Chooser) (ns : List Node) (before : ℕ) → ns ≡ [] → chooser_at world chooser ns before ≡ error_answer errors.Value
+pub chooser_none : (world : World) (rule : Chooser) (ns : List Node) (before : ℕ) → ns ≡ [] → chooser_at world rule ns before ≡ error_answer errors.Value
 unfolding chooser_at
-chooser_none world chooser ns before is = ap (λ n. chooser_answer chooser (arguments_at world n before)) is ∙ ap (chooser_answer chooser) (arguments_none world before)
+chooser_none world rule ns before is = ap (λ n. chooser_answer rule (arguments_at world n before)) is ∙ ap (chooser_answer rule) (arguments_none world before)
 
-start : (world : World) (chooser : Chooser) (ns : List Node) (first : Node) (others : List Node) (before : ℕ) → ns ≡ first ∷ others
-    → chooser_at world chooser ns before ≡ then_with (answer_at world first before) (λ v. chosen_answer (choice_after chooser v (length others)) (arguments_at world others (before + site_count first)))
+start : (world : World) (rule : Chooser) (ns : List Node) (first : Node) (others : List Node) (before : ℕ) → ns ≡ first ∷ others
+    → chooser_at world rule ns before ≡ then_with (answer_at world first before) (λ v. chosen_answer (choice_after rule v (length others)) (arguments_at world others (before + site_count first)))
 unfolding chooser_at
-start world chooser ns first others before is =
-    ap (λ n. chooser_answer chooser (arguments_at world n before)) is
-    ∙ ap (chooser_answer chooser) (arguments_first world first others before)
-    ∙ ap (λ count. then_with (answer_at world first before) (λ v. chosen_answer (choice_after chooser v count) (arguments_at world others (before + site_count first)))) (argument_count world others (before + site_count first))
+start world rule ns first others before is =
+    ap (λ n. chooser_answer rule (arguments_at world n before)) is
+    ∙ ap (chooser_answer rule) (arguments_first world first others before)
+    ∙ ap (λ count. then_with (answer_at world first before) (λ v. chosen_answer (choice_after rule v count) (arguments_at world others (before + site_count first)))) (argument_count world others (before + site_count first))
 
 -- the first argument halts
-pub chooser_halts : (world : World) (chooser : Chooser) (ns : List Node) (first : Node) (others : List Node) (before : ℕ) (halt : Halt) → ns ≡ first ∷ others → Halts (answer_at world first before) halt → Halts (chooser_at world chooser ns before) halt
-chooser_halts world chooser ns first others before halt is h = Halts-same _ _ halt (start world chooser ns first others before is) (Halts-then (answer_at world first before) halt _ h)
+pub chooser_halts : (world : World) (rule : Chooser) (ns : List Node) (first : Node) (others : List Node) (before : ℕ) (halt : Halt) → ns ≡ first ∷ others → Halts (answer_at world first before) halt → Halts (chooser_at world rule ns before) halt
+chooser_halts world rule ns first others before halt is h = Halts-same _ _ halt (start world rule ns first others before is) (Halts-then (answer_at world first before) halt _ h)
 
 -- by what is chosen
-by_choice : (world : World) (chooser : Chooser) (ns : List Node) (first : Node) (others : List Node) (before there : ℕ) (v : Value) (choice : Choice) → ns ≡ first ∷ others → answer_at world first before ≡ Val v → there ≡ before + site_count first
-    → choice ≡ choice_after chooser v (length others) → chooser_at world chooser ns before ≡ chosen_answer choice (arguments_at world others there)
-by_choice world chooser ns first others before there v choice is value at chosen =
-    start world chooser ns first others before is
-    ∙ ap (λ a. then_with a (λ w. chosen_answer (choice_after chooser w (length others)) (arguments_at world others (before + site_count first)))) value
-    ∙ ap (λ b. chosen_answer (choice_after chooser v (length others)) (arguments_at world others b)) (sym at)
+by_choice : (world : World) (rule : Chooser) (ns : List Node) (first : Node) (others : List Node) (before there : ℕ) (v : Value) (choice : Choice) → ns ≡ first ∷ others → answer_at world first before ≡ Val v → there ≡ before + site_count first
+    → choice ≡ choice_after rule v (length others) → chooser_at world rule ns before ≡ chosen_answer choice (arguments_at world others there)
+by_choice world rule ns first others before there v choice is value at chosen =
+    start world rule ns first others before is
+    ∙ ap (λ a. then_with a (λ w. chosen_answer (choice_after rule w (length others)) (arguments_at world others (before + site_count first)))) value
+    ∙ ap (λ b. chosen_answer (choice_after rule v (length others)) (arguments_at world others b)) (sym at)
     ∙ ap (λ c. chosen_answer c (arguments_at world others there)) (sym chosen)
 
 -- a value is chosen
-pub chooser_value : (world : World) (chooser : Chooser) (ns : List Node) (first : Node) (others : List Node) (before there : ℕ) (v : Value) (choice : Choice) (w : Value) → ns ≡ first ∷ others → answer_at world first before ≡ Val v → there ≡ before + site_count first
-    → choice ≡ choice_after chooser v (length others) → choice ≡ choices.Value w → chooser_at world chooser ns before ≡ Val w
-chooser_value world chooser ns first others before there v choice w is value at chosen which =
-    by_choice world chooser ns first others before there v choice is value at chosen ∙ ap (λ c. chosen_answer c (arguments_at world others there)) which
+pub chooser_value : (world : World) (rule : Chooser) (ns : List Node) (first : Node) (others : List Node) (before there : ℕ) (v : Value) (choice : Choice) (w : Value) → ns ≡ first ∷ others → answer_at world first before ≡ Val v → there ≡ before + site_count first
+    → choice ≡ choice_after rule v (length others) → choice ≡ choices.Value w → chooser_at world rule ns before ≡ Val w
+chooser_value world rule ns first others before there v choice w is value at chosen which =
+    by_choice world rule ns first others before there v choice is value at chosen ∙ ap (λ c. chosen_answer c (arguments_at world others there)) which
 
 -- an argument is chosen
-pub chooser_only : (world : World) (chooser : Chooser) (ns : List Node) (first : Node) (others : List Node) (before there : ℕ) (v : Value) (choice : Choice) (place : ℕ) → ns ≡ first ∷ others → answer_at world first before ≡ Val v → there ≡ before + site_count first
-    → choice ≡ choice_after chooser v (length others) → choice ≡ choices.Argument place → chooser_at world chooser ns before ≡ only_at world others place there
+pub chooser_only : (world : World) (rule : Chooser) (ns : List Node) (first : Node) (others : List Node) (before there : ℕ) (v : Value) (choice : Choice) (place : ℕ) → ns ≡ first ∷ others → answer_at world first before ≡ Val v → there ≡ before + site_count first
+    → choice ≡ choice_after rule v (length others) → choice ≡ choices.Argument place → chooser_at world rule ns before ≡ only_at world others place there
 unfolding only_at
-chooser_only world chooser ns first others before there v choice place is value at chosen which =
-    by_choice world chooser ns first others before there v choice is value at chosen ∙ ap (λ c. chosen_answer c (arguments_at world others there)) which
+chooser_only world rule ns first others before there v choice place is value at chosen which =
+    by_choice world rule ns first others before there v choice is value at chosen ∙ ap (λ c. chosen_answer c (arguments_at world others there)) which
 
 -- ---- the argument at a place
 -- among several

@@ -48,5 +48,5 @@ chosen_answer (choices.Argument place) others = chosen_at (slice_get others plac
 
 -- the answer of a function that chooses
 abbrev pub chooser_answer : Chooser → List Argument → Answer
-chooser_answer chooser [] = error_answer errors.Value
-chooser_answer chooser (first ∷ others) = then_with first.value (λ v. chosen_answer (choice_after chooser v (length others)) others)
+chooser_answer rule [] = error_answer errors.Value
+chooser_answer rule (first ∷ others) = then_with first.value (λ v. chosen_answer (choice_after rule v (length others)) others)

@@ -68,7 +68,7 @@ added_at world name arguments before = added_answer world (world.registered name
 
 -- the answer of a function that chooses behind so many sites
 unfoldable pub chooser_at : World → Chooser → List Node → ℕ → Answer
-chooser_at world chooser arguments before = chooser_answer chooser (arguments_at world arguments before)
+chooser_at world rule arguments before = chooser_answer rule (arguments_at world arguments before)
 
 -- the answer of the argument at a place behind so many sites
 unfoldable pub only_at : World → List Node → ℕ → ℕ → Answer
