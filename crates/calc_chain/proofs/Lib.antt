@@ -1,3 +1,4 @@
 -- Laws of the chain.
 mod ChainLaws
 mod ListLaws
+pub mod PublicLaws

@@ -8,10 +8,11 @@ use Rattle.cell_eval.specs.declared.jobs.Outcome.{Outcome}
 use Rattle.cell_eval.specs.declared.jobs.Outcome.TheVariants as outcomes
 use Rattle.cell_eval.specs.Jobs.{topic_value, world_of, closed_world}
 use Rattle.cell_eval.specs.Outcomes.{outcome_answer}
-use Rattle.cell_eval.specs.Resuming.{AgreesWith, AreNeeded, Foretells, NeedsNext, answer_knowing, knowing_more}
+use Rattle.cell_eval.specs.Resuming.{AgreesWith, AreNeeded, Foretells, NeedsNext, knowing_more}
 use Rattle.cell_eval.proofs.KnownTopics.{unknown_count, unknown_fewer, value_more}
-use Rattle.cell_eval.proofs.Reading.{topics_read, topics_suffice}
+use Rattle.cell_eval.proofs.Reading.{topics_suffice}
 use Rattle.workbook.specs.Evaluation.{Answer, Val, Asks, Needs, answer_of}
+use Rattle.workbook.specs.Reads.{answer_knowing, topics_read}
 
 -- the value of each topic, where those that a job doesn't know have this value
 abbrev pub snapshot_of : Job → Value → Topic → Value
@@ -64,7 +65,7 @@ grown_kept answer old job value h = h.grown ∙ ap (λ topics. record old { topi
 -- ---- how many of the topics that a formula reads aren't known
 -- of the topics that a job's formula reads over a snapshot, how many aren't among these
 pub left_count : (List ℕ → List Value → Value) → Job → Value → List (Topic × Value) → ℕ
-left_count answer old value topics = unknown_count topics (topics_read (world_of answer old) old.tree (snapshot_of old value))
+left_count answer old value topics = unknown_count topics (topics_read (world_of answer old) (snapshot_of old value) old.tree)
 
 -- a value that is found is that of the snapshot
 agrees_some : (o p : Option Value) (value : Value) → unwrap_or o value ≡ unwrap_or p value → IfSome o (λ v. v ≡ unwrap_or p value)
@@ -82,10 +83,10 @@ grown_world answer old job value h = ap (λ (j : Job). answer_of (world_of answe
 
 -- what a grown job's answer says of that of the closed world
 grown_foretells : (answer : List ℕ → List Value → Value) (old job : Job) (value : Value) (a : Answer) → HasGrown answer old value job → a ≡ answer_of (world_of answer job) job.tree
-    → Foretells (topic_value job.topics) (topics_read (world_of answer old) old.tree (snapshot_of old value)) (answer_of (closed_world answer old value) old.tree) a
+    → Foretells (topic_value job.topics) (topics_read (world_of answer old) (snapshot_of old value) old.tree) (answer_of (closed_world answer old value) old.tree) a
 unfolding world_of closed_world
 grown_foretells answer old job value a h is =
-    subst (Foretells (topic_value job.topics) (topics_read (world_of answer old) old.tree (snapshot_of old value)) (answer_of (closed_world answer old value) old.tree))
+    subst (Foretells (topic_value job.topics) (topics_read (world_of answer old) (snapshot_of old value) old.tree) (answer_of (closed_world answer old value) old.tree))
     (sym (is ∙ grown_world answer old job value h))
     ((topics_suffice (world_of answer old) old.tree (snapshot_of old value)).foretold (topic_value job.topics) (grown_agrees answer old job value h))
 
@@ -100,7 +101,7 @@ unfolding left_count
 left_fewer answer old job new value topic h is more =
     let outcome_answer = grown_foretells answer old job value (Needs topic) h is in
     subst (λ topics. left_count answer old value topics < left_count answer old value job.topics) (sym (ap (λ (j : Job). j.topics) more))
-    (unknown_fewer job.topics topic value (topics_read (world_of answer old) old.tree (snapshot_of old value)) outcome_answer.0 outcome_answer.1)
+    (unknown_fewer job.topics topic value (topics_read (world_of answer old) (snapshot_of old value) old.tree) outcome_answer.0 outcome_answer.1)
 
 -- an answer that needs no topic is the full one
 foretold_end : (known : Topic → Option Value) (topics : List Topic) (full a : Answer) → ((topic : Topic) → a ≡ Needs topic → ⊥) → Foretells known topics full a → a ≡ full
@@ -112,7 +113,7 @@ foretold_end known topics full (Needs topic) other h = absurd (other topic refl)
 pub ends_closed : (answer : List ℕ → List Value → Value) (old job : Job) (value : Value) (a : Answer) → HasGrown answer old value job → a ≡ answer_of (world_of answer job) job.tree
     → ((topic : Topic) → a ≡ Needs topic → ⊥) → a ≡ answer_of (closed_world answer old value) old.tree
 ends_closed answer old job value a h is other =
-    foretold_end (topic_value job.topics) (topics_read (world_of answer old) old.tree (snapshot_of old value)) (answer_of (closed_world answer old value) old.tree) a other
+    foretold_end (topic_value job.topics) (topics_read (world_of answer old) (snapshot_of old value) old.tree) (answer_of (closed_world answer old value) old.tree) a other
     (grown_foretells answer old job value a h is)
 
 -- an outcome that is no topic needs none

@@ -10,7 +10,7 @@ use Rattle.cell_values.specs.declared.values.Value.{Value}
 use Rattle.cell_values.specs.Topic.{same_topic}
 use Rattle.cell_values.proofs.PublicLaws.{same_topics}
 use Rattle.cell_eval.specs.Jobs.{topic_value}
-use Rattle.cell_eval.specs.Resuming.{is_listed}
+use Rattle.workbook.specs.Reads.{is_listed}
 
 -- the same topics have the same value
 value_same : (topics : List (Topic × Value)) (a b : Topic) → same_topic a b ≡ true → topic_value topics a ≡ topic_value topics b

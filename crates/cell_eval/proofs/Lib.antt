@@ -5,9 +5,6 @@ mod Ascending
 mod Calling
 mod Chaining
 mod Choosing
-mod DecidedCalls
-mod Deciding
-mod Decisions
 mod Evaluable
 mod Gathering
 mod Growing

@@ -1,25 +1,16 @@
 -- What a formula comes to as its topics become known.
-use Rattle.std.specs.Prelude.{◌≡◌, ℕ, Bool, true, List, [], ◌∷◌, ◌++◌, Option, Some, None, IfSome}
-use Rattle.std.specs.List.{list_any}
+use Rattle.std.specs.Prelude.{◌≡◌, ℕ, true, List, [], ◌∷◌, ◌++◌, Option, Some, None, IfSome}
 use Rattle.cell_values.specs.declared.topics.Topic.{Topic}
 use Rattle.cell_values.specs.declared.values.Value.{Value}
-use Rattle.cell_values.specs.Topic.{same_topic}
 use Rattle.cell_eval.specs.declared.jobs.Job.{Job}
 use Rattle.cell_eval.specs.Jobs.{topic_value, world_of}
 use Rattle.formula_parse.specs.declared.nodes.Node.{Node}
 use Rattle.workbook.specs.Evaluation.{World, Answer, Val, Asks, Needs, answer_of}
+use Rattle.workbook.specs.Reads.{answer_knowing, is_listed}
 
 -- each topic that is known has its value of a snapshot
 abbrev pub AgreesWith : (Topic → Value) → (Topic → Option Value) → Type 0
 AgreesWith snapshot known = (topic : Topic) → IfSome (known topic) (λ v. v ≡ snapshot topic)
-
--- a topic stands in a list
-abbrev pub is_listed : List Topic → Topic → Bool
-is_listed topics topic = list_any (same_topic topic) topics
-
--- the answer of a formula where these topics are known
-abbrev pub answer_knowing : World → Node → (Topic → Option Value) → Answer
-answer_knowing world tree known = answer_of (record world { known = known }) tree
 
 -- the answer of a formula where each topic has its value of a snapshot
 abbrev pub full_answer : World → Node → (Topic → Value) → Answer

@@ -2,6 +2,7 @@
 -- What the product means.
 pub mod Area
 pub mod Cell
+pub mod Handle
 pub mod Reaching
 pub mod RefText
 pub mod Written

@@ -22,6 +22,13 @@ pub const COLUMNS: u16 = 16_384;
 
 const _: () = prove!(size_of::<Cell>() <= 8);
 
+// An edit of a number is refused here, since clauses name the constants.
+const _: () = prove!(SHEETS == 64);
+
+const _: () = prove!(ROWS == 1_048_576);
+
+const _: () = prove!(COLUMNS == 16_384);
+
 impl PartialEq for Cell {
     ghost eq = { same_cell };
 

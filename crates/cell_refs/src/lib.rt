@@ -3,6 +3,7 @@
 
 mod areas;
 mod grid;
+mod handle_texts;
 mod handles;
 mod laws;
 mod memory;
@@ -13,6 +14,7 @@ mod writing;
 
 pub use areas::{Area, Cells};
 pub use grid::{COLUMNS, Cell, ROWS, SHEETS};
+pub use handle_texts::write_handle;
 pub use handles::Handle;
 pub use laws::{
     an_area_lists_its_cells, each_cell_has_its_text, reading_gives_what_stands,

@@ -96,6 +96,37 @@ fn written_texts(rt: HostRuntime) -> Result<(), Fail> {
 }
 
 #[test]
+fn written_handles(rt: HostRuntime) -> Result<(), Fail> {
+    let last = 18_446_744_073_709_551_615;
+    let mut out = Vec::new(rt.alloc());
+    let table: [(u64, u64, (u8, u32, u16), u16, &[u8]); 5] = [
+        (2, 1, (1, 1, 1), 1, b"2/1:A1#1"),
+        (1, 1, (1, 2, 4), 1, b"1:D2#1"),
+        (1, 1, (2, 1, 1), 65_535, b"1:Sheet2!A1#65535"),
+        (0, 12, (64, 7, 27), 0, b"0/12:Sheet64!AA7#0"),
+        (
+            last,
+            last,
+            (1, 1, 1),
+            1,
+            b"18446744073709551615/18446744073709551615:A1#1",
+        ),
+    ];
+    for (session, round, (sheet, row, col), site, text) in table {
+        let handle = Handle {
+            session,
+            round,
+            cell: Cell { sheet, row, col },
+            site,
+        };
+        out.clear();
+        assert_eq!(rt; write_handle(&handle, &mut out), Ok(()));
+        assert_eq!(rt; out.as_slice(), text);
+    }
+    Ok(())
+}
+
+#[test]
 fn an_area_by_rows(rt: HostRuntime) {
     let area = Area::of(&plain(Some(3), 2, 4), &plain(None, 1, 3), 1);
     assert_eq!(rt; area.size(), 4);

@@ -108,7 +108,7 @@ fn push_letter(column: u16, out: &mut Vec<u8>) -> Result<(), Memory>
 }
 
 /// Writes a number in decimal digits.
-fn push_number(number: u64, out: &mut Vec<u8>) -> Result<(), Memory>
+pub(crate) fn push_number(number: u64, out: &mut Vec<u8>) -> Result<(), Memory>
     ensures ok { OnOk result (out.new.items ≡ out.old.items ++ decimal number) }
     ensures err { OnErr result (out.new.items ≡ out.old.items) }
 {

@@ -5,6 +5,7 @@ pub mod Comparison
 pub mod Digits
 pub mod Error
 pub mod Name
+pub mod SameValue
 pub mod Text
 pub mod TextFault
 pub mod Topic

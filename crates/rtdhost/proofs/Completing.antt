@@ -20,10 +20,8 @@ use Rattle.workbook.specs.Book.{IsInOrder, content_at, has_formula, is_formula, 
 use Rattle.workbook.specs.Meaning.{meaning, shown_value, sheet_of}
 use Rattle.workbook.specs.Stale.{is_stale, reaches, stale_count}
 use Rattle.workbook.proofs.PublicLaws.{own_content, meaning-kept_clean, reaches-among, formula_cells-has, any_alike, or_false}
-use Rattle.workbook.specs.declared.commands.Command.{Command}
-use Rattle.workbook.specs.declared.commands.Command.TheVariants as commands
 use Rattle.workbook.specs.declared.replies.Reply.TheVariants as replies
-use Rattle.workbook.specs.State.{State, alone, reply_to, state_after, reply_at_rest, reply_in_round, after_at_rest, after_in_round, reply_to_set}
+use Rattle.rtdhost.specs.EngineState.{EngineState, EngineCommand, Set, alone, engine_reply, engine_after, reply_at_rest, reply_in_round, after_at_rest, after_in_round, reply_to_set}
 use Rattle.workbook.specs.Book.{SetsContent, cell_precedents}
 use Rattle.rtdhost.specs.Marking.{AddsCell}
 use Rattle.rtdhost.specs.Inputs.{ShowsOthers}
@@ -150,16 +148,16 @@ sheet-is book sheet book_ordered sheet_ordered shows =
     (λ q. find_is q sheet ∙ shows q ∙ sym (find_is q (sheet_of alone book) ∙ shown_lookup book book q))
 
 -- the reply and the state after a command, while no recalculation runs and while one does
-pub rest_reply : (s : State) (command : Command) → s.running ≡ false → reply_to s command ≡ reply_at_rest s command
+pub rest_reply : (s : EngineState) (command : EngineCommand) → s.running ≡ false → engine_reply s command ≡ reply_at_rest s command
 rest_reply s command h = ap (λ b. cond b (reply_in_round s command) (reply_at_rest s command)) h
 
-pub rest_after_it : (s : State) (command : Command) → s.running ≡ false → state_after s command ≡ after_at_rest s command
+pub rest_after_it : (s : EngineState) (command : EngineCommand) → s.running ≡ false → engine_after s command ≡ after_at_rest s command
 rest_after_it s command h = ap (λ b. cond b (after_in_round s command) (after_at_rest s command)) h
 
-pub round_reply : (s : State) (command : Command) → s.running ≡ true → reply_to s command ≡ reply_in_round s command
+pub round_reply : (s : EngineState) (command : EngineCommand) → s.running ≡ true → engine_reply s command ≡ reply_in_round s command
 round_reply s command h = ap (λ b. cond b (reply_in_round s command) (reply_at_rest s command)) h
 
-pub round_after_it : (s : State) (command : Command) → s.running ≡ true → state_after s command ≡ after_in_round s command
+pub round_after_it : (s : EngineState) (command : EngineCommand) → s.running ≡ true → engine_after s command ≡ after_in_round s command
 round_after_it s command h = ap (λ b. cond b (after_in_round s command) (after_at_rest s command)) h
 
 -- a content for which there is room is taken
@@ -168,7 +166,7 @@ room_reply true b e f = cc
 room_reply false true e f = cc
 room_reply false false e f = refl
 
-room_after : (a b : Bool) (s t : State) → a ≡ false → b ≡ false → cond (a || b) s t ≡ t
+room_after : (a b : Bool) (s t : EngineState) → a ≡ false → b ≡ false → cond (a || b) s t ≡ t
 room_after true b s t e f = cc
 room_after false true s t e f = cc
 room_after false false s t e f = refl
@@ -177,8 +175,8 @@ pub set_replied : (book : List (Cell × Content)) (cell : Cell) (content : Conte
     → replies.Ok ≡ reply_to_set book cell content
 set_replied book cell content e f = room_reply (exceeds_cells book cell) (exceeds_formulas book cell content) e f
 
-pub set_taken : (s : State) (cell : Cell) (content : Content) → exceeds_cells s.book cell ≡ false → exceeds_formulas s.book cell content ≡ false
-    → after_at_rest s (commands.Set cell content) ≡ record s { book = insert_entry cell_cmp s.book cell content; changed = cell ∷ s.changed }
+pub set_taken : (s : EngineState) (cell : Cell) (content : Content) → exceeds_cells s.book cell ≡ false → exceeds_formulas s.book cell content ≡ false
+    → after_at_rest s (Set cell content) ≡ record s { book = insert_entry cell_cmp s.book cell content; changed = cell ∷ s.changed }
 set_taken s cell content e f = room_after (exceeds_cells s.book cell) (exceeds_formulas s.book cell content) s _ e f
 
 or_is : (b c : Bool) → cond b true c ≡ (b || c)

@@ -21,7 +21,7 @@ use Rattle.workbook.specs.Circular.{walks_on, is_circular}
 use Rattle.workbook.specs.Evaluation as answers
 use Rattle.workbook.specs.Evaluation.{Answer, answer_of}
 use Rattle.workbook.specs.Meaning.{Meaning, Val, Circ, Asks, Open, world_at, meaning_of_answer, value_in, is_open, content_meaning, meaning, shown_value}
-use Rattle.workbook.specs.State.{alone}
+use Rattle.rtdhost.specs.EngineState.{alone}
 use Rattle.cell_refs.proofs.PublicLaws.{same_cell_is}
 use Rattle.workbook.proofs.PublicLaws.{evaluated_alike, walks-formula, circular-names, each_leads, none_where, shows_circle, meaning-unfolds, formula_cells-has, formula_cells-count}
 use Rattle.rtdhost.specs.Inputs.{AreInputs, known_content, known_formula, known_input, answer_value, value_if_known, content_if_known, ready_value, ShowsOthers, AreMeant, KeepsFinished, FinishesReady, IsFinishedOrNew, IsEvaluated}

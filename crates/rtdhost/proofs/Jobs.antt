@@ -11,7 +11,7 @@ use Rattle.cell_values.specs.declared.values.Value.TheVariants as values
 use Rattle.formula_parse.specs.declared.nodes.Node.{Node}
 use Rattle.workbook.specs.Evaluation.{answer_of}
 use Rattle.workbook.specs.Meaning.{world_at}
-use Rattle.workbook.specs.State.{alone}
+use Rattle.rtdhost.specs.EngineState.{alone}
 
 -- such a job knows no topic, result and function
 pub alone_comes_to : (round : ℕ) (cell : Cell) (copy tree : Node) (inputs : List (Cell × Value)) (topics : List (Topic × Value)) (results : List (ℕ × Value)) (functions : List (List ℕ × Registration))

@@ -17,3 +17,5 @@ pub mod Showing
 pub mod Completing
 pub mod Sessions
 pub mod Turns
+mod SaidCommands
+mod Widening

@@ -13,7 +13,7 @@ use Rattle.workbook.specs.declared.contents.Content.{Content}
 use Rattle.workbook.specs.declared.contents.Content.TheVariants as contents
 use Rattle.workbook.specs.Book.{IsInOrder, content_at, has_formula, is_formula}
 use Rattle.workbook.specs.Meaning.{Val, meaning, shown_value}
-use Rattle.workbook.specs.State.{alone}
+use Rattle.rtdhost.specs.EngineState.{alone}
 use Rattle.cell_refs.proofs.PublicLaws.{same_cell_is, same_cells}
 use Rattle.rtdhost.proofs.Evaluations.{constant_means}
 use Rattle.rtdhost.specs.Inputs.{IsEvaluated, known_content}

@@ -18,7 +18,7 @@ use Rattle.workbook.specs.Book.{cells_from, content_at, is_formula}
 use Rattle.workbook.specs.Evaluation.{Answer, Val, Asks, Needs, answer_of}
 use Rattle.workbook.specs.Meaning as meanings
 use Rattle.workbook.specs.Meaning.{meaning, shown_value, world_at}
-use Rattle.workbook.specs.State.{alone}
+use Rattle.rtdhost.specs.EngineState.{alone}
 use Rattle.rtdhost.specs.declared.gathering.Step.{Step}
 use Rattle.rtdhost.specs.declared.gathering.Step.TheVariants as steps
 use Rattle.rtdhost.specs.Scanning.{is_before}

@@ -5,6 +5,7 @@ pub mod Words
 -- What the crate's own functions keep.
 pub mod Endings
 pub mod Engine
+pub mod EngineState
 pub mod Inputs
 pub mod Marking
 pub mod Publishing

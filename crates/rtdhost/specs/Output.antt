@@ -1,7 +1,11 @@
 -- What the program writes for the bytes that it reads.
 use Rattle.std.specs.Prelude.{ℕ, if◌then◌else◌, Option, Some, None, List, [], ◌∷◌, ◌++◌, codes}
+use Rattle.std.specs.List.{flat_map}
+use Rattle.addin_types.specs.Samples.{sample_answer}
+use Rattle.workbook.specs.declared.commands.Command.{Command}
 use Rattle.workbook.specs.declared.commands.Command.TheVariants as commands
-use Rattle.workbook.specs.State.{State, first_state, reply_to, state_after}
+use Rattle.workbook.specs.History.{replies_to_all, state_after_all}
+use Rattle.workbook.specs.State.{HostTerms, State, first_state}
 use Rattle.session_script.specs.declared.script.Parsed.{Parsed}
 use Rattle.session_script.specs.declared.script.Parsed.TheVariants as parsed
 use Rattle.host_io.specs.Lines.{lines_of}
@@ -9,19 +13,25 @@ use Rattle.sheet_print.specs.Replies.{bad_text, reply_text}
 use Rattle.session_script.specs.Script.{line_said}
 use Rattle.rtdhost.specs.Words.{is_run, usage_line}
 
--- what is written for what a line says: the reply's lines; nothing for an empty line; `bad later` for a line of no known form
+-- the program's host: its session is 1, its history has at most 1,000,000 entries, and its add-in functions are the sample ones
+abbrev pub program_terms : HostTerms
+program_terms = record { session = 1; limit = 1000000; answer = sample_answer }
+
+-- the commands that a line says: none for an empty line, two for a `calc`
+abbrev pub commands_said : Parsed → List Command
+commands_said parsed.Empty = []
+commands_said (parsed.One command) = command ∷ []
+commands_said (parsed.Calc kind) = commands.Begin kind ∷ commands.Settle ∷ []
+
+-- what is written for what a line says: the lines of the replies to its commands; `bad later` for a line of no known form
 abbrev pub said_reply : State → Option Parsed → List ℕ
 said_reply s None = bad_text (codes "later")
-said_reply s (Some parsed.Empty) = []
-said_reply s (Some (parsed.One command)) = reply_text (reply_to s command)
-said_reply s (Some (parsed.Calc kind)) = reply_text (reply_to s (commands.Begin kind)) ++ reply_text (reply_to (state_after s (commands.Begin kind)) commands.Settle)
+said_reply s (Some said) = flat_map reply_text (replies_to_all program_terms s (commands_said said))
 
 -- the state after what a line says
 abbrev pub said_after : State → Option Parsed → State
 said_after s None = s
-said_after s (Some parsed.Empty) = s
-said_after s (Some (parsed.One command)) = state_after s command
-said_after s (Some (parsed.Calc kind)) = state_after (state_after s (commands.Begin kind)) commands.Settle
+said_after s (Some said) = state_after_all program_terms s (commands_said said)
 
 -- what is written for these lines, from a state on
 abbrev pub replies_from : State → List (List ℕ) → List ℕ

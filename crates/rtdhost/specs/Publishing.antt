@@ -8,7 +8,7 @@ use Rattle.cell_values.specs.declared.values.Value.{Value}
 use Rattle.workbook.specs.declared.contents.Content.{Content}
 use Rattle.workbook.specs.Book.{content_at, is_formula}
 use Rattle.workbook.specs.Meaning.{meaning, shown_value}
-use Rattle.workbook.specs.State.{alone}
+use Rattle.rtdhost.specs.EngineState.{alone}
 
 -- what a sheet shows of a cell is what the cell means in the book; nothing where it has no content
 abbrev pub ShowsMeaning : List (Cell × Content) → List (Cell × Option Value) → Cell → Type 0

@@ -1,11 +1,13 @@
 //! Acts on the lines of a script and appends their replies.
 
-ghost use Rattle.std.specs.Prelude.{◌≡◌, ◌++◌, ◌+◌, ◌^◌, ◌<◌, ◌≤◌, OnOk, OnErr, None, Some, take, vec_len};
+ghost use Rattle.std.specs.Prelude.{◌≡◌, ◌++◌, ◌+◌, ◌^◌, ◌<◌, ◌≤◌, [], OnOk, OnErr, None, Some, take, vec_len};
 ghost use Rattle.rtdhost.specs.Engine.{Stands};
-ghost use Rattle.rtdhost.specs.Output.{said_reply, said_after};
+ghost use Rattle.rtdhost.specs.EngineState.{IsDirty, IsTaken};
+ghost use Rattle.rtdhost.specs.Output.{program_terms, said_reply, said_after};
 ghost use Rattle.sheet_print.specs.Replies.{reply_text};
 ghost use Rattle.session_script.specs.Script.{line_said};
-ghost use Rattle.workbook.specs.State.{State, reply_to, state_after};
+ghost use Rattle.workbook.specs.State.{State};
+ghost use Rattle.workbook.specs.Step.{reply_to, state_after};
 
 use super::engine::Engine;
 use cell_values::Memory;
@@ -47,10 +49,11 @@ pub fn answer_bad(out: &mut Vec<u8>) -> Result<(), Memory>
 
 /// Acts on a command and appends the reply's lines.
 fn act(engine: &mut Engine, command: Command, out: &mut Vec<u8>) -> Result<(), Memory>
-    requires { engine.old.round + 1 < 2 ^ 64 }
+    requires taken { IsTaken command }
+    requires round { engine.old.round + 1 < 2 ^ 64 }
     ensures step { (s : State) → Stands engine.old s → OnOk result
-        ((out.new.items ≡ out.old.items ++ reply_text (reply_to s command))
-        × Stands engine.new (state_after s command)) }
+        ((out.new.items ≡ out.old.items ++ reply_text (reply_to program_terms [] s command))
+        × Stands engine.new (state_after program_terms [] s command)) }
     ensures err { OnErr result (out.new.items ≡ out.old.items) }
     ensures kept { take (vec_len out.old) out.new.items ≡ out.old.items }
     ensures round { OnOk result (engine.new.round ≤ engine.old.round + 1) }
@@ -61,7 +64,8 @@ fn act(engine: &mut Engine, command: Command, out: &mut Vec<u8>) -> Result<(), M
 
 /// Begins a recalculation and settles it.
 fn calculate(engine: &mut Engine, kind: BeginKind, out: &mut Vec<u8>) -> Result<(), Memory>
-    requires { engine.old.round + 2 < 2 ^ 64 }
+    requires dirty { IsDirty kind }
+    requires round { engine.old.round + 2 < 2 ^ 64 }
     ensures step { (s : State) → Stands engine.old s → OnOk result
         ((out.new.items ≡ out.old.items ++ said_reply s (Some (Parsed.Calc kind)))
         × Stands engine.new (said_after s (Some (Parsed.Calc kind)))) }
@@ -78,7 +82,8 @@ fn calculate(engine: &mut Engine, kind: BeginKind, out: &mut Vec<u8>) -> Result<
 
 /// The two commands of a calculation; a refusal may leave the first reply.
 fn begin_and_settle(engine: &mut Engine, kind: BeginKind, out: &mut Vec<u8>) -> Result<(), Memory>
-    requires { engine.old.round + 2 < 2 ^ 64 }
+    requires dirty { IsDirty kind }
+    requires round { engine.old.round + 2 < 2 ^ 64 }
     ensures step { (s : State) → Stands engine.old s → OnOk result
         ((out.new.items ≡ out.old.items ++ said_reply s (Some (Parsed.Calc kind)))
         × Stands engine.new (said_after s (Some (Parsed.Calc kind)))) }

@@ -1,12 +1,16 @@
 //! The engine that the program runs: the state of a host on which nothing stays open.
 
-ghost use Rattle.std.specs.Prelude.{◌≡◌, ◌+◌, ◌^◌, ◌<◌, ◌≤◌, IfOk, OnOk, Ok, true, false};
+ghost use Rattle.std.specs.Prelude.{◌≡◌, ◌+◌, ◌^◌, ◌<◌, ◌≤◌, IfOk, OnOk, Ok, [], true, false};
 ghost use Rattle.std.specs.BTreeMap.{IsOrdered};
 ghost use Rattle.cell_refs.specs.Cell.{cell_cmp};
 ghost use Rattle.rtdhost.specs.Engine.{IsReplyToSet};
 ghost use Rattle.rtdhost.specs.Marking.{AddsCell};
+ghost use Rattle.rtdhost.specs.EngineState.{EngineState, IsTaken, alone, engine_after, engine_reply};
+ghost use Rattle.rtdhost.specs.EngineState as engine;
+ghost use Rattle.rtdhost.specs.Output.{program_terms};
 ghost use Rattle.workbook.specs.Meaning.{sheet_of};
-ghost use Rattle.workbook.specs.State.{State, alone, first_state, reply_to, state_after};
+ghost use Rattle.workbook.specs.State.{State, first_state};
+ghost use Rattle.workbook.specs.Step.{reply_to, state_after};
 
 use super::recalculating::recalculate;
 use super::sights::copied;
@@ -29,7 +33,7 @@ pub struct Engine {
 }
 
 impl Engine {
-    ghost use Rattle.rtdhost.specs.Engine.{Stands};
+    ghost use Rattle.rtdhost.specs.Engine.{Holds, Stands};
 
     /// An engine with an empty book.
     pub fn new(alloc: Global) -> Engine
@@ -52,27 +56,29 @@ impl Engine {
         self.round
     }
 
-    /// Answers a command. After want of memory the engine is not used again.
+    /// Answers a command of those that a script can give so far. After want of memory the engine is not used again.
     pub fn act(&mut self, command: Command) -> Result<Reply, Memory>
-        requires { self.old.round + 1 < 2 ^ 64 }
+        requires taken { IsTaken command }
+        requires round { self.old.round + 1 < 2 ^ 64 }
         ensures step { (s : State) → Stands self.old s
-            → IfOk result (λ reply. (reply ≡ reply_to s command)
-            × Stands self.new (state_after s command)) }
+            → IfOk result (λ reply. (reply ≡ reply_to program_terms [] s command)
+            × Stands self.new (state_after program_terms [] s command)) }
         ensures round { OnOk result (self.new.round ≤ self.old.round + 1) }
     {
         match command {
             Command::Set { cell, content } => self.set(cell, content),
-            Command::Begin(kind) => Ok(self.begin(kind)),
+            Command::Begin(BeginKind::Dirty) => Ok(self.begin()),
             Command::Settle => self.settle(),
             Command::Print(form) => self.print(form),
+            _ => unreachable!(),
         }
     }
 
     /// Gives a cell this content.
     fn set(&mut self, cell: Cell, content: Content) -> Result<Reply, Memory>
-        ensures step { (s : State) → Stands self.old s
-            → IfOk result (λ reply. (reply ≡ reply_to s (Command.Set cell content))
-            × Stands self.new (state_after s (Command.Set cell content))) }
+        ensures step { (s : EngineState) → Holds self.old s
+            → IfOk result (λ reply. (reply ≡ engine_reply s (engine.Set cell content))
+            × Holds self.new (engine_after s (engine.Set cell content))) }
         ensures round { self.new.round ≡ self.old.round }
     {
         if self.running {
@@ -88,11 +94,11 @@ impl Engine {
     }
 
     /// Begins a recalculation.
-    fn begin(&mut self, kind: BeginKind) -> Reply
+    fn begin(&mut self) -> Reply
         requires { self.old.round + 1 < 2 ^ 64 }
-        ensures step { (s : State) → Stands self.old s
-            → (result ≡ reply_to s (Command.Begin kind))
-            × Stands self.new (state_after s (Command.Begin kind)) }
+        ensures step { (s : EngineState) → Holds self.old s
+            → (result ≡ engine_reply s engine.Begin)
+            × Holds self.new (engine_after s engine.Begin) }
         ensures round { self.new.round ≤ self.old.round + 1 }
     {
         if self.running {
@@ -105,9 +111,9 @@ impl Engine {
 
     /// Completes the recalculation that runs.
     fn settle(&mut self) -> Result<Reply, Memory>
-        ensures step { (s : State) → Stands self.old s
-            → IfOk result (λ reply. (reply ≡ reply_to s Command.Settle)
-            × Stands self.new (state_after s Command.Settle)) }
+        ensures step { (s : EngineState) → Holds self.old s
+            → IfOk result (λ reply. (reply ≡ engine_reply s engine.Settle)
+            × Holds self.new (engine_after s engine.Settle)) }
         ensures round { self.new.round ≡ self.old.round }
     {
         if !self.running {
@@ -130,8 +136,8 @@ impl Engine {
 
     /// The sheet of the last completed recalculation.
     fn print(&self, form: Form) -> Result<Reply, Memory>
-        ensures step { (s : State) → Stands self.now s
-            → IfOk result (λ reply. reply ≡ Reply.Sheet form (sheet_of alone s.completed)) }
+        ensures step { (s : EngineState) → Holds self.now s
+            → IfOk result (λ reply. reply ≡ engine_reply s (engine.Print form)) }
     {
         let cells = sheet_cells(self.alloc, &self.sheet)?;
         Ok(Reply::Sheet { form, cells })

@@ -10,7 +10,7 @@ ghost use Rattle.cell_values.specs.declared.values.Value.{Value};
 ghost use Rattle.workbook.specs.Book.{IsInOrder, formula_cells, is_formula};
 ghost use Rattle.workbook.specs.Evaluation.{answer_of};
 ghost use Rattle.workbook.specs.Meaning.{world_at};
-ghost use Rattle.workbook.specs.State.{alone};
+ghost use Rattle.rtdhost.specs.EngineState.{alone};
 ghost use Rattle.rtdhost.specs.Inputs.{answer_value, known_input, value_if_known, ready_value, ShowsOthers, AreMeant, KeepsFinished, FinishesReady, IsFinishedOrNew, IsEvaluated};
 
 use super::gathering::inputs_if_known;

@@ -7,6 +7,7 @@ fn word(said: &Result<Parsed, BadLine>) -> &'static str {
     match said {
         Ok(Parsed::Empty) => "empty",
         Ok(Parsed::Calc(BeginKind::Dirty)) => "calc",
+        Ok(Parsed::Calc(_)) => "other calc",
         Ok(Parsed::One(Command::Print(Form::Lines))) => "print",
         Ok(Parsed::One(Command::Set { content, .. })) => match content {
             Content::Num(_) => "number",

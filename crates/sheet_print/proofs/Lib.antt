@@ -1,3 +1,7 @@
--- Laws of what is appended.
+-- Laws of what is appended, and of records.
 mod Appending
+mod Arguments
+mod Fields
+mod OneLine
+mod Written
 pub mod PublicLaws

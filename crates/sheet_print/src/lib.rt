@@ -1,7 +1,11 @@
 //! The written replies of a host.
 #![tactic(auto)]
 
+mod calls;
+mod lines;
+mod records;
 mod replies;
+mod sheets;
 #[cfg(test)]
 mod tests;
 

@@ -1,14 +1,14 @@
 //! Writes the lines of replies.
 
-ghost use Rattle.std.specs.Prelude.{◌≡◌, ◌++◌, OnOk, OnErr, take, vec_len, decimal, codes, option_copied};
+ghost use Rattle.std.specs.Prelude.{◌≡◌, ◌++◌, OnOk, OnErr, take, vec_len, codes};
 ghost use Rattle.std.specs.List.{flat_map};
-ghost use Rattle.cell_refs.specs.Written.{cell_text};
-ghost use Rattle.sheet_print.specs.Replies.{bad_text, cell_line, line_of, reply_text, shown_text};
+ghost use Rattle.sheet_print.specs.Replies.{bad_text, event_line, failed_line, line_of, reply_text};
 
-use cell_refs::{Cell, write_cell};
-use cell_values::{Memory, Value, print_value};
-use itoa::Buffer;
-use workbook::{Reply, SheetCells};
+use super::calls::push_calls;
+use super::lines::{push, push_counted, push_line, push_named, push_numbered};
+use super::sheets::push_sheet;
+use cell_values::{Event, Memory};
+use workbook::{Calls, EventList, Names, Reply};
 
 /// Appends the lines of a reply. A refusal leaves `out` as it was.
 pub fn reply_text(reply: &Reply, out: &mut Vec<u8>) -> Result<(), Memory>
@@ -54,111 +54,80 @@ fn push_reply(reply: &Reply, out: &mut Vec<u8>) -> Result<(), Memory>
 {
     match reply {
         Reply::Ok => push_line(b"ok", out),
+        Reply::Known => push_line(b"known", out),
+        Reply::Builtin => push_line(b"builtin", out),
+        Reply::NoServer => push_line(b"no server", out),
+        Reply::NoListener => push_line(b"no listener", out),
+        Reply::Idle => push_line(b"idle", out),
+        Reply::Nothing => push_line(b"nothing", out),
+        Reply::Manual => push_line(b"manual", out),
         Reply::CellLimit => push_line(b"full cells", out),
         Reply::FormulaLimit => push_line(b"full formulas", out),
-        Reply::Idle => push_line(b"idle", out),
         Reply::Busy(n) => push_numbered(b"busy ", *n, out),
+        Reply::Early(wait) => push_numbered(b"early ", *wait, out),
         Reply::Begun(n) => push_numbered(b"begun ", *n, out),
-        Reply::Done { round, cells } => push_done(*round, *cells, out),
-        Reply::Sheet { cells, .. } => push_sheet(cells, out),
+        Reply::Cancelled(n) => push_numbered(b"cancelled ", *n, out),
+        Reply::Code(code) => push_numbered(b"", u64::from(*code), out),
+        Reply::Failed(name) => push_named(b"failed ", name, out),
+        Reply::Pulled { changed, failed } => push_pulled(*changed, failed, out),
+        Reply::Done { round, cells } => push_counted(b"done ", *round, b" cells ", *cells, out),
+        Reply::Waiting { round, calls } => push_waiting(*round, calls, out),
+        Reply::Events(events) => push_events(events, out),
+        Reply::Sheet { form, cells } => push_sheet(*form, cells, out),
     }
 }
 
-/// Appends bytes.
-fn push(bytes: &[u8], out: &mut Vec<u8>) -> Result<(), Memory>
-    ensures ok { OnOk result (out.new.items ≡ out.old.items ++ bytes.now) }
-    ensures err { OnErr result (out.new.items ≡ out.old.items) }
+/// Appends the lines of a pull.
+fn push_pulled(changed: u64, failed: &Names, out: &mut Vec<u8>) -> Result<(), Memory>
+    ensures ok { OnOk result (out.new.items ≡ out.old.items
+        ++ reply_text (Reply.Pulled changed failed.now)) }
+    ensures kept { take (vec_len out.old) out.new.items ≡ out.old.items }
 {
-    match out.extend_from_slice(bytes) {
-        Ok(()) => Ok(()),
-        Err(_) => Err(Memory),
+    push_numbered(b"pulled ", changed, out)?;
+    push_failed(failed, out)
+}
+
+/// Appends a line for each server that failed.
+fn push_failed(failed: &Names, out: &mut Vec<u8>) -> Result<(), Memory>
+    ensures ok { OnOk result (out.new.items ≡ out.old.items ++ flat_map failed_line failed.now) }
+    ensures kept { take (vec_len out.old) out.new.items ≡ out.old.items }
+{
+    for name in failed.as_slice() {
+        push_named(b" failed ", name, out)?;
     }
+    Ok(())
 }
 
-/// Appends a text and LF.
-fn push_line(text: &[u8], out: &mut Vec<u8>) -> Result<(), Memory>
-    ensures ok { OnOk result (out.new.items ≡ out.old.items ++ line_of text.now) }
-    ensures kept { take (vec_len out.old) out.new.items ≡ out.old.items }
-{
-    push(text, out)?;
-    push(b"\n", out)
-}
-
-/// Appends a number in decimal digits.
-fn push_number(number: u64, out: &mut Vec<u8>) -> Result<(), Memory>
-    ensures ok { OnOk result (out.new.items ≡ out.old.items ++ decimal number) }
-    ensures err { OnErr result (out.new.items ≡ out.old.items) }
-{
-    push(Buffer::new().format(number).as_bytes(), out)
-}
-
-/// Appends a line of words and a number.
-fn push_numbered(words: &[u8], number: u64, out: &mut Vec<u8>) -> Result<(), Memory>
+/// Appends the lines of a recalculation that waits.
+fn push_waiting(round: u64, calls: &Calls, out: &mut Vec<u8>) -> Result<(), Memory>
     ensures ok { OnOk result (out.new.items ≡ out.old.items
-        ++ line_of (words.now ++ decimal number)) }
+        ++ reply_text (Reply.Waiting round calls.now)) }
     ensures kept { take (vec_len out.old) out.new.items ≡ out.old.items }
 {
-    push(words, out)?;
-    push_number(number, out)?;
-    push(b"\n", out)
+    let count = calls.as_slice().len() as u64;
+    push_counted(b"waiting ", round, b" count ", count, out)?;
+    push_calls(calls, out)
 }
 
-/// Appends the line of a completed recalculation.
-fn push_done(round: u64, cells: u64, out: &mut Vec<u8>) -> Result<(), Memory>
-    ensures ok { OnOk result (out.new.items ≡ out.old.items
-        ++ reply_text (Reply.Done round cells)) }
-    ensures kept { take (vec_len out.old) out.new.items ≡ out.old.items }
-{
-    push(b"done ", out)?;
-    push_number(round, out)?;
-    push(b" cells ", out)?;
-    push_number(cells, out)?;
-    push(b"\n", out)
-}
-
-/// Appends the lines of a sheet, and `end`.
-fn push_sheet(cells: &SheetCells, out: &mut Vec<u8>) -> Result<(), Memory>
-    ensures ok { OnOk result (out.new.items ≡ out.old.items ++ flat_map cell_line cells.now
+/// Appends the lines of events, and `end`.
+fn push_events(events: &EventList, out: &mut Vec<u8>) -> Result<(), Memory>
+    ensures ok { OnOk result (out.new.items ≡ out.old.items ++ flat_map event_line events.now
         ++ line_of (codes "end")) }
     ensures kept { take (vec_len out.old) out.new.items ≡ out.old.items }
 {
-    for (cell, shown) in cells.as_slice() {
-        push_cell(*cell, shown.as_ref(), out)?;
+    for event in events.as_slice() {
+        push_event(*event, out)?;
     }
     push_line(b"end", out)
 }
 
-/// Appends the line of a cell.
-fn push_cell(cell: Cell, shown: Option<&Value>, out: &mut Vec<u8>) -> Result<(), Memory>
-    ensures ok { OnOk result (out.new.items ≡ out.old.items
-        ++ cell_line (cell, option_copied shown.entry)) }
+/// Appends the line of an event.
+fn push_event(event: Event, out: &mut Vec<u8>) -> Result<(), Memory>
+    ensures ok { OnOk result (out.new.items ≡ out.old.items ++ event_line event) }
     ensures kept { take (vec_len out.old) out.new.items ≡ out.old.items }
 {
-    push_name(cell, out)?;
-    push(b"=", out)?;
-    push_shown(shown, out)?;
-    push(b"\n", out)
-}
-
-/// Appends the text of a cell.
-fn push_name(cell: Cell, out: &mut Vec<u8>) -> Result<(), Memory>
-    ensures ok { OnOk result (out.new.items ≡ out.old.items ++ cell_text cell) }
-    ensures err { OnErr result (out.new.items ≡ out.old.items) }
-{
-    match write_cell(cell, out) {
-        Ok(()) => Ok(()),
-        Err(_) => Err(Memory),
-    }
-}
-
-/// Appends what a cell shows.
-fn push_shown(shown: Option<&Value>, out: &mut Vec<u8>) -> Result<(), Memory>
-    ensures ok { OnOk result (out.new.items ≡ out.old.items
-        ++ shown_text (option_copied shown.entry)) }
-    ensures err { OnErr result (out.new.items ≡ out.old.items) }
-{
-    match shown {
-        None => push(b"#CIRC!", out),
-        Some(value) => print_value(value, out),
+    match event {
+        Event::Ended(round) => push_numbered(b" ended ", round, out),
+        Event::Cancelled(round) => push_numbered(b" cancelled ", round, out),
     }
 }

@@ -2,3 +2,4 @@
 mod EditLaws
 mod SpreadLaws
 mod WalkLaws
+pub mod PublicLaws

@@ -28,10 +28,11 @@ impl Model for Marks {
 }
 
 impl Marks {
-    ghost use Rattle.std.specs.Prelude.{[], ◌⊎◌, true, length, OnOk, OnErr};
+    ghost use Rattle.std.specs.Prelude.{[], ◌⊎◌, true, length, IfOk, OnOk, OnErr};
+    ghost use Rattle.std.specs.List.Sorted.{IsStrictlySortedBy};
     ghost use Rattle.std.specs.Set.{remove_key};
     ghost use Rattle.cell_refs.specs.declared.grid.Cell.{Cell as OneCell};
-    ghost use Rattle.cell_refs.specs.Cell.{is_among, same_cell};
+    ghost use Rattle.cell_refs.specs.Cell.{cell_cmp, is_among, same_cell};
     ghost use Rattle.stale_marks.specs.Marks.{IsClosed, IsClosedBut, IsDependent, KeepsMarks, LosesMark};
 
     /// No marks.
@@ -81,6 +82,18 @@ impl Marks {
         ensures { result ≡ length self.now }
     {
         self.marks.len()
+    }
+
+    /// The marked cells, in cell order, each once.
+    pub fn list(&self, alloc: Global) -> Result<Vec<Cell>, Memory>
+        ensures cells { IfOk result (λ cells. cells.items ≡ self.now) }
+        ensures ordered { IfOk result (λ cells. IsStrictlySortedBy cell_cmp cells.items) }
+    {
+        let mut cells = Vec::new(alloc);
+        for cell in &self.marks {
+            cells.push(*cell)?;
+        }
+        Ok(cells)
     }
 
     /// Takes all marks away.

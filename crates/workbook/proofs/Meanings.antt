@@ -1,6 +1,6 @@
 -- What cells mean: the meaning of a cell that isn't circular is that of its content over the meanings of the cells
--- that it names, and a cell from which no changed cell is reached keeps its meaning.
-use Rattle.std.proofs.Common.{◌≡◌, ℕ, zero, suc, ◌+◌, Bool, true, false, cond, ◌||◌, ◌&&◌, List, [], ◌∷◌, Option, Some, None, refl, ap, sym, subst, ◌∙◌, arith}
+-- that it names. What holds of each cell that isn't circular where it holds of the cells that it names, holds of each.
+use Rattle.std.proofs.Common.{◌≡◌, ℕ, zero, suc, ◌+◌, Bool, true, false, cond, ◌||◌, List, [], ◌∷◌, Option, Some, None, refl, ap, sym, subst, ◌∙◌, arith}
 use Rattle.std.specs.List.{list_any, AllByRecursion}
 use Rattle.cell_refs.specs.declared.grid.Cell.{Cell}
 use Rattle.cell_values.specs.declared.values.Value.TheVariants.{Blank}
@@ -8,15 +8,13 @@ use Rattle.formula_parse.specs.declared.nodes.Node.{Node}
 use Rattle.formula_parse.specs.Tree.{precedents}
 use Rattle.workbook.specs.declared.contents.Content.{Content}
 use Rattle.workbook.specs.declared.contents.Content.TheVariants as contents
-use Rattle.workbook.specs.Book.{IsInOrder, content_at, has_formula, content_precedents, is_formula, cell_precedents, formula_count}
+use Rattle.workbook.specs.Book.{IsInOrder, content_at, has_formula, content_precedents, cell_precedents, formula_count}
 use Rattle.workbook.specs.Circular.{walks_on, is_circular}
 use Rattle.workbook.specs.Evaluation.{answer_of}
 use Rattle.workbook.specs.Meaning.{Setting, Meaning, Val, Circ, Open, world_at, meaning_of_answer, value_in, is_open, content_meaning, meaning_within, meaning}
-use Rattle.cell_refs.specs.Cell.{is_among}
-use Rattle.workbook.specs.Stale.{reaches, is_stale}
 use Rattle.workbook.proofs.Evaluations.{evaluated_alike}
 use Rattle.workbook.proofs.Walking.{walks-shorter, circular-walks, circular-names}
-use Rattle.workbook.proofs.Reaching.{or_false, reaches-enough, reaches-constant}
+use Rattle.workbook.proofs.Reaching.{or_false}
 
 -- two tests that agree on each of a list
 pub any_each : {X : Type 0} (p q : X → Bool) (xs : List X) → AllByRecursion (λ x. p x ≡ q x) xs → list_any p xs ≡ list_any q xs
@@ -29,7 +27,7 @@ each_leads P Q leads [] each = tt
 each_leads P Q leads (x ∷ xs) each = (leads x each.0, each_leads P Q leads xs each.1)
 
 -- the meaning of a formula depends on the meanings of the named cells alone
-formula_alike : (setting : Setting) (cell : Cell) (f g : Cell → Meaning) (tree : Node) → AllByRecursion (λ d. f d ≡ g d) (precedents tree cell.sheet)
+pub formula_alike : (setting : Setting) (cell : Cell) (f g : Cell → Meaning) (tree : Node) → AllByRecursion (λ d. f d ≡ g d) (precedents tree cell.sheet)
     → content_meaning setting cell f (Some (contents.Formula tree)) ≡ content_meaning setting cell g (Some (contents.Formula tree))
 formula_alike setting cell f g tree each =
     let waits = any_each (λ d. is_open (f d)) (λ d. is_open (g d)) (precedents tree cell.sheet) (each_leads _ _ (λ d h. ap is_open h) (precedents tree cell.sheet) each) in
@@ -59,7 +57,7 @@ pub none_where : {X : Type 0} (p : X → Bool) (Q : X → Type 0) → ((x : X) �
 none_where p Q leads [] h = tt
 none_where p Q leads (x ∷ xs) h = let both = or_false (p x) (list_any p xs) h in (leads x both.0, none_where p Q leads xs both.1)
 
-false_falls : (a b : Bool) → (b ≡ true → a ≡ true) → a ≡ false → b ≡ false
+pub false_falls : (a b : Bool) → (b ≡ true → a ≡ true) → a ≡ false → b ≡ false
 false_falls a true leads h = sym (leads refl) ∙ h
 false_falls a false leads h = refl
 
@@ -104,52 +102,28 @@ module _ (setting : Setting) (book : List (Cell × Content)) where
       ∙ sym (content_alike setting c (content_at book c) (meaning setting book) (meaning_within setting book (formula_count book))
       (none_where (is_circular book) _ shows_within (cell_precedents book c) (sym (circular-names book ordered c) ∙ h)))
 
-module _ (setting : Setting) (before now : List (Cell × Content)) (changed : List Cell) (before_ordered : IsInOrder before) (now_ordered : IsInOrder now) (kept : (c : Cell) → is_among changed c ≡ false → content_at before c ≡ content_at now c) where
-  -- no changed cell is reached
-  abbrev clean : Cell → Type 0
-  clean c = reaches now changed (formula_count now) c ≡ false
+-- a constant names no cell
+constant_names : (P : Cell → Type 0) (content : Option Content) (home : ℕ) → has_formula content ≡ false → AllByRecursion P (content_precedents content home)
+constant_names P None home h = tt
+constant_names P (Some (contents.Num n)) home h = tt
+constant_names P (Some (contents.Text t)) home h = tt
+constant_names P (Some (contents.Bool b)) home h = tt
+constant_names P (Some (contents.Error e)) home h = tt
+constant_names P (Some (contents.Formula tree)) home h = cc
 
-  clean-parts : (c : Cell) → clean c → (is_among changed c ≡ false) × (list_any (reaches now changed (formula_count now)) (cell_precedents now c) ≡ false)
-  clean-parts c h = or_false _ _ (reaches-enough now now_ordered changed c ∙ h)
+module _
+    (book : List (Cell × Content))
+    (ordered : IsInOrder book)
+    (P : Cell → Type 0)
+    (step : (cell : Cell) → is_circular book cell ≡ false → AllByRecursion P (cell_precedents book cell) → P cell)
+  where
+    -- a cell without a walk of n steps
+    without_walk : (n : ℕ) (cell : Cell) → walks_on book n cell ≡ false → P cell
+    without_walk zero cell h =
+        step cell (false_falls _ _ (circular-walks book ordered 0 cell) h) (constant_names P (content_at book cell) cell.sheet h)
+    without_walk (suc n) cell h =
+        step cell (false_falls _ _ (circular-walks book ordered (suc n) cell) h) (none_where (walks_on book n) P (without_walk n) (cell_precedents book cell) h)
 
-  named_alike : (c : Cell) → clean c → cell_precedents before c ≡ cell_precedents now c
-  named_alike c h = ap (λ o. content_precedents o c.sheet) (kept c (clean-parts c h).0)
-
-  any_where : (p q : Cell → Bool) → ((d : Cell) → clean d → p d ≡ q d) → (ds : List Cell) → list_any (reaches now changed (formula_count now)) ds ≡ false → list_any p ds ≡ list_any q ds
-  any_where p q alike [] h = refl
-  any_where p q alike (d ∷ ds) h =
-      let both = or_false _ _ h in
-      ap (λ b. b || list_any p ds) (alike d both.0) ∙ ap (λ b. q d || b) (any_where p q alike ds both.1)
-
-  walks_alike : (n : ℕ) (c : Cell) → clean c → walks_on before n c ≡ walks_on now n c
-  walks_alike zero c h = ap has_formula (kept c (clean-parts c h).0)
-  walks_alike (suc n) c h =
-      ap (list_any (walks_on before n)) (named_alike c h)
-      ∙ any_where (walks_on before n) (walks_on now n) (walks_alike n) (cell_precedents now c) (clean-parts c h).1
-
-  meanings_alike : (n : ℕ) (c : Cell) → clean c → meaning_within setting before n c ≡ meaning_within setting now n c
-  meanings_alike zero c h = ap (content_meaning setting c (λ _. Val Blank)) (kept c (clean-parts c h).0)
-  meanings_alike (suc n) c h =
-      ap (content_meaning setting c (meaning_within setting before n)) (kept c (clean-parts c h).0)
-      ∙ content_alike setting c (content_at now c) (meaning_within setting before n) (meaning_within setting now n) (none_where _ _ (meanings_alike n) (cell_precedents now c) (clean-parts c h).1)
-
-  -- a cell from which no changed cell is reached keeps its meaning
-  pub meaning-kept : (c : Cell) → reaches now changed (formula_count now) c ≡ false → meaning setting before c ≡ meaning setting now c
-  meaning-kept c h = elim (is_circular before c) as (λ b. is_circular before c ≡ b → meaning setting before c ≡ meaning setting now c) [
-    | true ↦ λ e. shows_circle setting before c e ∙ sym (shows_circle setting now c (sym (walks_alike (formula_count now) c h) ∙ circular-walks before before_ordered (formula_count now) c e))
-    | false ↦ λ e.
-        let f = false_falls _ _ (λ t. walks_alike (formula_count before) c h ∙ circular-walks now now_ordered (formula_count before) c t) e in
-        let same = meanings-agree setting before (formula_count before) (formula_count now) c e (walks_alike (formula_count now) c h ∙ f) ∙ meanings_alike (formula_count now) c h in
-        shows_within setting before c e ∙ same ∙ sym (shows_within setting now c f)
-  ] refl
-
-  not_both : (formula reached : Bool) → (formula && reached) ≡ false → formula ≡ true → reached ≡ false
-  not_both true reached h e = h
-  not_both false reached h e = cc
-
-  -- the same of a cell that is neither changed nor stale
-  pub meaning-kept_clean : (c : Cell) → is_among changed c ≡ false → is_stale now changed c ≡ false → meaning setting before c ≡ meaning setting now c
-  meaning-kept_clean c unchanged fresh = meaning-kept c (elim (is_formula now c) as (λ b. is_formula now c ≡ b → reaches now changed (formula_count now) c ≡ false) [
-    | true ↦ λ e. not_both _ _ fresh e
-    | false ↦ λ e. reaches-constant now changed (formula_count now) c e ∙ unchanged
-  ] refl)
+    -- an induction along the cells that cells name, over those that aren't circular
+    pub along_precedents : (cell : Cell) → is_circular book cell ≡ false → P cell
+    along_precedents = without_walk (formula_count book)

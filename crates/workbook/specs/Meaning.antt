@@ -63,6 +63,13 @@ is_open Circ = false
 is_open (Asks site name args) = true
 is_open Open = true
 
+-- whether a cell of this meaning asks for a call
+abbrev pub asks_call : Meaning → Bool
+asks_call (Val v) = false
+asks_call Circ = false
+asks_call (Asks site name args) = true
+asks_call Open = false
+
 -- the meaning of a formula in this cell, where cells mean so: it waits where a cell that it names asks or waits
 abbrev pub formula_meaning : Setting → Cell → (Cell → Meaning) → Node → Meaning
 formula_meaning setting cell meanings tree =

@@ -1,6 +1,6 @@
-ghost use Rattle.std.specs.Prelude.{◌≡◌, Some};
+ghost use Rattle.std.specs.Prelude.{◌≡◌, IfOk, Some};
 
-use cell_values::{ErrorKind, Text};
+use cell_values::{ErrorKind, Memory, Text};
 use formula_parse::Tree;
 
 /// The content of a cell: a constant or a formula.
@@ -24,6 +24,19 @@ impl Content {
         match self {
             Content::Formula(_) => true,
             Content::Num(_) | Content::Text(_) | Content::Bool(_) | Content::Error(_) => false,
+        }
+    }
+
+    /// An equal content, which shares its text or tree.
+    pub fn copy(&self) -> Result<Content, Memory>
+        ensures { IfOk result (λ copy. copy ≡ self.now) }
+    {
+        match self {
+            Content::Num(number) => Ok(Content::Num(*number)),
+            Content::Text(text) => Ok(Content::Text(text.copy()?)),
+            Content::Bool(truth) => Ok(Content::Bool(*truth)),
+            Content::Error(kind) => Ok(Content::Error(*kind)),
+            Content::Formula(tree) => Ok(Content::Formula(tree.copy()?)),
         }
     }
 

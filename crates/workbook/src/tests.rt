@@ -1,8 +1,9 @@
 use super::books::{Book, CELL_LIMIT, FORMULA_LIMIT, SetFault};
+use super::commands::{BeginKind, Command, Form, Moment};
 use super::contents::Content;
 use super::replies::SheetCells;
 use addin_types::{Kind, Registration};
-use cell_refs::Cell;
+use cell_refs::{Cell, Handle};
 use cell_values::{ErrorKind, Name, Text, Value};
 use formula_parse::{parse, print};
 use std::alloc::Global;
@@ -217,5 +218,59 @@ fn a_sheet_lists_its_cells_as_given(rt: HostRuntime) -> Result<(), Fail> {
     let sheet = SheetCells::from_vec(cells);
     let listed = [(cell(1, 1, 1), Some(Value::Num(2))), (cell(1, 2, 1), None)];
     assert_eq!(rt; sheet.as_slice(), listed.as_slice());
+    Ok(())
+}
+
+/// Whether a command is the set of this cell to this text.
+fn is_set(command: &Command, at: Cell, text: &str) -> bool {
+    match command {
+        Command::Set { cell, content } => *cell == at && text_of(Some(content)) == Some(text),
+        _ => false,
+    }
+}
+
+#[test]
+fn a_copy_is_the_same_command(rt: HostRuntime) -> Result<(), Fail> {
+    let at = cell(2, 3, 4);
+    let content = Content::Text(Text::new(rt.alloc(), "hi")?);
+    let copy = Command::Set { cell: at, content }.copy()?;
+    assert!(rt; is_set(&copy, at, "hi"));
+    let handle = Handle {
+        session: 1,
+        round: 2,
+        cell: at,
+        site: 3,
+    };
+    let value = Value::Num(7);
+    match (Command::Return { handle, value }.copy()?) {
+        Command::Return {
+            handle: same,
+            value,
+        } => {
+            assert_eq!(rt; same, handle);
+            assert_eq!(rt; value, Value::Num(7));
+        }
+        _ => panic!(rt; "another command"),
+    }
+    let name = Name::new(rt.alloc(), "px")?;
+    match Command::Notify(name).copy()? {
+        Command::Notify(name) => assert_eq!(rt; name.as_str(), "px"),
+        _ => panic!(rt; "another command"),
+    }
+    assert!(rt; matches!(Command::Settle.copy()?, Command::Settle));
+    assert!(rt; matches!(Command::Throttle(-1).copy()?, Command::Throttle(-1)));
+    assert!(rt;
+        matches!(
+            Command::Pull(Moment::At(500)).copy()?,
+            Command::Pull(Moment::At(500))
+        )
+    );
+    assert!(rt;
+        matches!(
+            Command::Begin(BeginKind::All).copy()?,
+            Command::Begin(BeginKind::All)
+        )
+    );
+    assert!(rt; matches!(Command::Print(Form::Csv).copy()?, Command::Print(Form::Csv)));
     Ok(())
 }

@@ -1,4 +1,4 @@
-use Rattle.workbook.proofs.Meanings.{meaning-kept_clean}
+use Rattle.workbook.proofs.Keeping.{meaning-kept_clean}
 use Rattle.workbook.proofs.laws.kept_meanings.Goals as goal
 
 pub returns : goal.returns

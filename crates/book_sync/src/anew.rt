@@ -1,0 +1,70 @@
+ghost use Rattle.std.specs.Prelude.{◌≡◌, [], ◌⊎◌, None, Some, true, false, IfOk, OnOk};
+ghost use Rattle.book_sync.specs.Following.{FollowsChanged, TableFollows};
+ghost use Rattle.cell_refs.specs.declared.grid.Cell.{Cell as OneCell};
+ghost use Rattle.cell_refs.specs.Cell.{is_among};
+ghost use Rattle.cell_refs.specs.Reaching.{Reaches};
+ghost use Rattle.cell_store.specs.Store.{KeepsShown, is_touched, present_at};
+ghost use Rattle.workbook.specs.Book.{cell_precedents};
+ghost use Rattle.workbook.specs.Stale.{is_stale};
+
+use super::following::follow;
+use super::formulas::put_areas;
+use cell_refs::Cell;
+use cell_store::CellStore;
+use cell_values::Memory;
+use dep_table::DepTable;
+use stale_marks::Marks;
+use std::alloc::Global;
+use std::collections::BTreeSet;
+use workbook::Book;
+
+/// As `follow`, with a table that is made anew from the whole book: it needn't have followed the book before.
+pub fn follow_anew(
+    alloc: Global,
+    book: &Book,
+    changed: &BTreeSet<Cell>,
+    table: &mut DepTable,
+    marks: &mut Marks,
+    store: &mut CellStore,
+) -> Result<(), Memory>
+    // Whatever the answer: a table that followed still does, and only changed and stale cells lose what they had.
+    ensures again { TableFollows book.now.contents changed.now.keys table.old
+        → TableFollows book.now.contents changed.now.keys table.new }
+    ensures shown { KeepsShown store.old store.new }
+    ensures others { (q : OneCell) → is_among changed.now.keys q ≡ false
+        → is_stale book.now.contents changed.now.keys q ≡ false
+        → present_at store.new q ≡ present_at store.old q }
+    ensures only { (q : OneCell) → is_touched store.new q ≡ true → (is_touched store.old q ≡ true)
+        ⊎ Reaches (cell_precedents book.now.contents) changed.now.keys q }
+
+    // With Ok the table follows the book everywhere, and so do the marks.
+    ensures table { OnOk result (TableFollows book.now.contents [] table.new) }
+    ensures marked { OnOk result ((q : OneCell)
+        → is_among marks.new q ≡ is_stale book.now.contents changed.now.keys q) }
+
+    // A constant is present with its value, and a stale cell with none.
+    ensures changed { OnOk result
+        (FollowsChanged book.now.contents changed.now.keys store.new) }
+    ensures stale { OnOk result ((q : OneCell)
+        → is_stale book.now.contents changed.now.keys q ≡ true
+        → present_at store.new q ≡ Some None) }
+    ensures touched { OnOk result ((q : OneCell) → (is_among changed.now.keys q ≡ true)
+        ⊎ (is_stale book.now.contents changed.now.keys q ≡ true)
+        → is_touched store.new q ≡ true) }
+{
+    *table = table_of(alloc, book)?;
+    follow(alloc, book, changed, table, marks, store)
+}
+
+/// The table of a book: of each formula cell the areas that its formula names.
+fn table_of(alloc: Global, book: &Book) -> Result<DepTable, Memory>
+    ensures { IfOk result (λ table. TableFollows book.now.contents [] table) }
+{
+    let mut table = DepTable::new(alloc);
+    let mut after = None;
+    while let Some(cell) = book.next_cell(after) {
+        put_areas(alloc, book, cell, &mut table)?;
+        after = Some(cell);
+    }
+    Ok(table)
+}

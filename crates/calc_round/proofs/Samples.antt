@@ -1,0 +1,158 @@
+-- A book of which nothing was evaluated: what is entered, and the recalculation that begins with it.
+use Rattle.std.proofs.Common.{◌≡◌, ℕ, Bool, true, false, cond, ◌||◌, ◌&&◌, Option, None, Some, is_some, List, [], ◌∷◌, ◌++◌, refl, ap, sym, subst, ◌∙◌}
+use Rattle.std.specs.List.{IsDistinct}
+use Rattle.std.specs.Option.{option_map}
+use Rattle.std.proofs.lemmas.Bool.{and_from, or_left, or_right, true≢false}
+use Rattle.std.proofs.lemmas.Map.Keys.{IsDistinct-push}
+use Rattle.cell_chain.specs.CellOrder.{entries_among}
+use Rattle.cell_chain.proofs.PublicLaws.{among-append, among-entries_among}
+use Rattle.cell_refs.specs.declared.grid.Cell.{Cell}
+use Rattle.cell_refs.specs.Cell.{is_among, same_cell}
+use Rattle.cell_refs.proofs.PublicLaws.{same_cell_is, same_cells}
+use Rattle.cell_store.specs.Gathering.{has_no_value}
+use Rattle.cell_store.specs.Store.{GainsTouched, PutsPresent, StoreState, is_touched, present_at}
+use Rattle.cell_values.specs.declared.values.Value.{Value}
+use Rattle.cell_values.specs.declared.values.Value.TheVariants as values
+use Rattle.workbook.specs.declared.contents.Content.{Content}
+use Rattle.workbook.specs.declared.contents.Content.TheVariants as contents
+use Rattle.workbook.specs.Book.{IsInOrder, SetsContent, content_at, formula_count, has_formula, is_formula}
+use Rattle.workbook.specs.Circular.{is_circular, walks_on}
+use Rattle.workbook.specs.Meaning.{Setting, Val, content_meaning, meaning}
+use Rattle.workbook.proofs.PublicLaws.{meaning-unfolds, walks-formula}
+use Rattle.calc_round.specs.Rounds.{IsWorking, is_unfinished}
+use Rattle.calc_round.specs.Samples.{IsUnevaluated, first_value}
+use Rattle.calc_round.proofs.Chains.{distinct-filter, distinct-none}
+
+-- ---- nothing is entered
+pub unevaluated-none : (store : StoreState) (book : List (Cell × Content)) (entries : List Cell) → IsInOrder book → book ≡ [] → ((q : Cell) → present_at store q ≡ None) → entries ≡ []
+    → IsUnevaluated book store entries
+unevaluated-none store book entries ordered empty absent none = record {
+  ordered = ordered;
+  present = λ q. absent q ∙ ap (λ es. option_map first_value (content_at es q)) (sym empty);
+  cells = λ q. ap (λ cs. is_among cs q) none ∙ ap (λ es. is_formula es q) (sym empty);
+  once = subst (IsDistinct same_cell) (sym none) distinct-none;
+  touched = λ q h. let no : false ≡ true = ap has_no_value (sym (absent q)) ∙ h in cc;
+}
+
+-- ---- a cell is entered
+lone : (b f : Bool) → f ≡ false → (f || b) ≡ b
+lone b true h = cc
+lone b false h = refl
+
+module _ (book book' : List (Cell × Content)) (store store' : StoreState) (entries entries' : List Cell) (cell : Cell) (content : Content)
+    (before : IsUnevaluated book store entries) (absent : content_at book cell ≡ None) (sets : SetsContent book book' cell content)
+    (puts : PutsPresent store store' cell (Some (first_value content))) (touches : GainsTouched store store' cell)
+    (is : entries' ≡ cond (has_formula (Some content)) (entries ++ cell ∷ []) entries) where
+  present_after : (q : Cell) → present_at store' q ≡ option_map first_value (content_at book' q)
+  present_after q =
+      puts q ∙ ap (λ o. cond (same_cell cell q) (Some (first_value content)) o) (before.present q) ∙ either (same_cell cell q)
+      ∙ ap (option_map first_value) (sym (sets q))
+    where
+      either : (b : Bool) → cond b (Some (first_value content)) (option_map first_value (content_at book q)) ≡ option_map first_value (cond b (Some content) (content_at book q))
+      either true = refl
+      either false = refl
+
+  lacking : is_among entries cell ≡ false
+  lacking = before.cells cell ∙ ap has_formula absent
+
+  cells_after : (q : Cell) → is_among entries' q ≡ is_formula book' q
+  cells_after q = ap (λ cs. is_among cs q) is ∙ either (has_formula (Some content)) refl ∙ ap has_formula (sym (sets q))
+    where
+      appended : (b : Bool) → same_cell cell q ≡ b → has_formula (Some content) ≡ true → (is_among entries q || b) ≡ has_formula (cond b (Some content) (content_at book q))
+      appended true same formula = ap (λ f. f || true) (ap (is_among entries) (sym (same_cell_is cell q same)) ∙ lacking) ∙ sym formula
+      appended false other formula = ap (λ f. f || false) (before.cells q) ∙ right (is_formula book q)
+        where
+          right : (f : Bool) → (f || false) ≡ f
+          right true = refl
+          right false = refl
+
+      passed : (b : Bool) → same_cell cell q ≡ b → has_formula (Some content) ≡ false → is_among entries q ≡ has_formula (cond b (Some content) (content_at book q))
+      passed true same constant = ap (is_among entries) (sym (same_cell_is cell q same)) ∙ lacking ∙ sym constant
+      passed false other constant = before.cells q
+
+      either : (f : Bool) → has_formula (Some content) ≡ f → is_among (cond f (entries ++ cell ∷ []) entries) q ≡ has_formula (cond (same_cell cell q) (Some content) (content_at book q))
+      either true formula = among-append entries cell q ∙ ap (λ b. is_among entries q || b) (same_cells.symm q cell) ∙ appended (same_cell cell q) refl formula
+      either false constant = passed (same_cell cell q) refl constant
+
+  once_after : IsDistinct same_cell entries'
+  once_after = subst (IsDistinct same_cell) (sym is) (either (has_formula (Some content)))
+    where
+      either : (f : Bool) → IsDistinct same_cell (cond f (entries ++ cell ∷ []) entries)
+      either true = IsDistinct-push same_cells entries cell before.once lacking
+      either false = before.once
+
+  touched_after : (q : Cell) → is_unfinished store' q ≡ true → is_touched store' q ≡ true
+  touched_after q h = touches q ∙ elim (same_cell cell q) as (λ b. same_cell cell q ≡ b → (b || is_touched store q) ≡ true) [
+    | true ↦ λ _. refl
+    | false ↦ λ other. before.touched q (ap (λ b. has_no_value (cond b (Some (first_value content)) (present_at store q))) (sym other) ∙ ap has_no_value (sym (puts q)) ∙ h)
+  ] refl
+
+  pub entered : IsInOrder book' → IsUnevaluated book' store' entries'
+  entered ordered = record {
+    ordered = ordered;
+    present = present_after;
+    cells = cells_after;
+    once = once_after;
+    touched = touched_after;
+  }
+
+-- ---- the recalculation of all
+shows_formula : (o : Option Content) → has_no_value (option_map first_value o) ≡ has_formula o
+shows_formula None = refl
+shows_formula (Some (contents.Num n)) = refl
+shows_formula (Some (contents.Text t)) = refl
+shows_formula (Some (contents.Bool b)) = refl
+shows_formula (Some (contents.Error e)) = refl
+shows_formula (Some (contents.Formula tree)) = refl
+
+mapped_some : (o : Option Content) → is_some (option_map first_value o) ≡ is_some o
+mapped_some None = refl
+mapped_some (Some content) = refl
+
+module _ (setting : Setting) (book : List (Cell × Content)) (store : StoreState) (entries : List Cell) (start : IsUnevaluated book store entries) where
+  no_walk : (n : ℕ) (c : Cell) → is_formula book c ≡ false → walks_on book n c ≡ false
+  no_walk n c constant = elim (walks_on book n c) as (λ b. walks_on book n c ≡ b → b ≡ false) [
+    | true ↦ λ e. sym (walks-formula book n c e) ∙ constant
+    | false ↦ λ _. refl
+  ] refl
+
+  constant_means : (c : Cell) (o : Option Content) → content_at book c ≡ o → has_formula o ≡ false → meaning setting book c ≡ content_meaning setting c (meaning setting book) o
+  constant_means c o is constant =
+      meaning-unfolds setting book start.ordered c (no_walk (formula_count book) c (ap has_formula is ∙ constant)) ∙ ap (content_meaning setting c (meaning setting book)) is
+
+  first_means : (c : Cell) (v : Value) (o : Option Content) → content_at book c ≡ o → option_map first_value o ≡ Some (Some v) → meaning setting book c ≡ Val v
+  first_means c v None is h = cc
+  first_means c v (Some (contents.Num n)) is h = let same : values.Num n ≡ v = cc in constant_means c (Some (contents.Num n)) is refl ∙ ap Val same
+  first_means c v (Some (contents.Text t)) is h = let same : values.Text t ≡ v = cc in constant_means c (Some (contents.Text t)) is refl ∙ ap Val same
+  first_means c v (Some (contents.Bool b)) is h = let same : values.Bool b ≡ v = cc in constant_means c (Some (contents.Bool b)) is refl ∙ ap Val same
+  first_means c v (Some (contents.Error e)) is h = let same : values.Error e ≡ v = cc in constant_means c (Some (contents.Error e)) is refl ∙ ap Val same
+  first_means c v (Some (contents.Formula tree)) is h = cc
+
+  unfinished_formula : (q : Cell) → is_unfinished store q ≡ is_formula book q
+  unfinished_formula q = ap has_no_value (start.present q) ∙ shows_formula (content_at book q)
+
+  all_among : (q : Cell) → is_among (entries_among entries entries) q ≡ (is_among entries q && is_among entries q)
+  all_among q = among-entries_among entries entries q
+
+  first_of_two : (a : Bool) → (a && a) ≡ true → a ≡ true
+  first_of_two true h = refl
+  first_of_two false h = h
+
+  pub unevaluated-working : (due : List Cell) → due ≡ entries_among entries entries → IsWorking setting book store entries due
+  unevaluated-working due is = subst (IsWorking setting book store entries) (sym is) (record {
+    means = record {
+      content = λ q. ap is_some (start.present q) ∙ mapped_some (content_at book q);
+      value = λ q v h. first_means q v (content_at book q) refl (sym (start.present q) ∙ h);
+      formula = λ q h. sym (unfinished_formula q) ∙ h;
+    };
+    ordered = start.ordered;
+    entries_once = start.once;
+    pending_once = distinct-filter (is_among entries) entries start.once;
+    pending_open = λ q h.
+        let here = first_of_two (is_among entries q) (sym (all_among q) ∙ h) in
+        and_from _ _ here (unfinished_formula q ∙ sym (start.cells q) ∙ here);
+    touched = start.touched;
+    left = λ q h.
+        let here = start.cells q ∙ sym (unfinished_formula q) ∙ h in
+        or_right (is_circular book q) _ (all_among q ∙ and_from _ _ here here);
+  })

@@ -1,0 +1,5 @@
+-- What the product means.
+pub mod Rounds
+-- What the crate's own functions keep.
+pub mod Looks
+pub mod Samples

@@ -1,0 +1,23 @@
+-- For the tests: a book of which nothing was evaluated.
+use Rattle.std.specs.Prelude.{◌≡◌, true, Option, None, Some, List}
+use Rattle.std.specs.List.{IsDistinct}
+use Rattle.std.specs.Option.{option_map}
+use Rattle.cell_refs.specs.declared.grid.Cell.{Cell}
+use Rattle.cell_refs.specs.Cell.{is_among, same_cell}
+use Rattle.cell_store.specs.Store.{StoreState, is_touched, present_at}
+use Rattle.cell_values.specs.declared.values.Value.{Value}
+use Rattle.workbook.specs.declared.contents.Content.{Content}
+use Rattle.workbook.specs.Book.{IsInOrder, by_content, content_at, is_formula}
+use Rattle.calc_round.specs.Rounds.{is_unfinished}
+
+-- what is present of a content before any evaluation: the value of a constant, and none of a formula
+abbrev pub first_value : Content → Option Value
+first_value content = by_content Some (λ tree. None) (Some content)
+
+-- each cell with content has its first value, and the formula cells are the entries of the chain
+pub record IsUnevaluated (book : List (Cell × Content)) (store : StoreState) (entries : List Cell) : Type 0 where
+  pub ordered : IsInOrder book
+  pub present : (q : Cell) → present_at store q ≡ option_map first_value (content_at book q)
+  pub cells : (q : Cell) → is_among entries q ≡ is_formula book q
+  pub once : IsDistinct same_cell entries
+  pub touched : (q : Cell) → is_unfinished store q ≡ true → is_touched store q ≡ true

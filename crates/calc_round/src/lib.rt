@@ -1,0 +1,11 @@
+//! What goes on in one recalculation: the unfinished cells are evaluated along the chain, over the store of values.
+#![tactic(auto)]
+
+mod looks;
+mod places;
+mod rounds;
+#[cfg(test)]
+mod tests;
+
+pub use cell_values::Memory;
+pub use rounds::work_out;

@@ -1,0 +1,100 @@
+-- The lines of a script say commands that the engine takes.
+use Rattle.std.proofs.Common.{◌≡◌, ℕ, Bool, true, false, cond, List, [], ◌++◌, Option, Some, None, Result, Ok, Err, OnOk, ap, sym, subst, ◌∙◌, append_assoc, append-nil}
+use Rattle.std.specs.Prelude.{◌==◌, codes, length, nat_lt, option_and_then, option_map}
+use Rattle.std.specs.List.{after_first, before_first}
+use Rattle.std.specs.Str.{bytes_eq}
+use Rattle.cell_refs.specs.declared.grid.Cell.{Cell}
+use Rattle.session_script.specs.declared.script.Parsed.{Parsed}
+use Rattle.session_script.specs.declared.script.Parsed.TheVariants as parsed
+use Rattle.session_script.specs.declared.limits.TheConstants.{MAX_LINE}
+use Rattle.session_script.specs.Script.{cell_of, content_of, has_space, is_space, is_utf8, line_said, set_said, word_said, words_said}
+use Rattle.sheet_print.specs.Replies.{reply_text}
+use Rattle.workbook.specs.declared.commands.BeginKind.{BeginKind}
+use Rattle.workbook.specs.declared.commands.BeginKind.TheVariants.{Dirty}
+use Rattle.workbook.specs.declared.commands.Command.{Command}
+use Rattle.workbook.specs.declared.commands.Form.TheVariants.{Lines}
+use Rattle.workbook.specs.declared.commands.Command.TheVariants as commands
+use Rattle.workbook.specs.declared.contents.Content.{Content}
+use Rattle.workbook.specs.State.{State}
+use Rattle.workbook.specs.Step.{reply_to, state_after}
+use Rattle.rtdhost.specs.declared.engine.Engine.{Engine}
+use Rattle.rtdhost.specs.Engine.{Stands}
+use Rattle.rtdhost.specs.EngineState.{SaysTaken}
+use Rattle.rtdhost.specs.Output.{program_terms, said_reply, said_after}
+
+-- what is said, if anything is, are commands that the engine takes
+abbrev SaysIfTaken : Option Parsed → Type 0
+SaysIfTaken None = Unit {0}
+SaysIfTaken (Some said) = SaysTaken said
+
+-- one of two that say such commands
+either_taken : (b : Bool) (x y : Option Parsed) → SaysIfTaken x → SaysIfTaken y → SaysIfTaken (cond b x y)
+either_taken true x y h k = h
+either_taken false x y h k = k
+
+-- a set, where there is a content
+content_taken : (cell : Cell) (content : Option Content) → SaysIfTaken (option_map (λ content. parsed.One (commands.Set cell content)) content)
+content_taken cell None = tt
+content_taken cell (Some content) = tt
+
+-- a set, where there is a cell
+cell_taken : (content : Option Content) (cell : Option Cell) → SaysIfTaken (option_and_then (λ cell. option_map (λ content. parsed.One (commands.Set cell content)) content) cell)
+cell_taken content None = tt
+cell_taken content (Some cell) = content_taken cell content
+
+set_taken : (text : List ℕ) → SaysIfTaken (set_said text)
+set_taken text =
+    let content = content_of (after_first is_space text) in
+    let cell = cell_of (before_first is_space text) in
+    either_taken (has_space text) (option_and_then (λ c. option_map (λ x. parsed.One (commands.Set c x)) content) cell) None (cell_taken content cell) tt
+
+word_taken : (word : List ℕ) → SaysIfTaken (word_said word)
+word_taken word =
+    let print = bytes_eq word (codes "print") in
+    either_taken (bytes_eq word (codes "calc")) (Some (parsed.Calc Dirty)) (cond print (Some (parsed.One (commands.Print Lines))) None) tt
+    (either_taken print (Some (parsed.One (commands.Print Lines))) None tt tt)
+
+words_taken : (line : List ℕ) → SaysIfTaken (words_said line)
+words_taken line =
+    let set = bytes_eq (before_first is_space line) (codes "set") in
+    let said = set_said (after_first is_space line) in
+    either_taken (has_space line) (cond set said None) (word_said line) (either_taken set said None (set_taken (after_first is_space line)) tt) (word_taken line)
+
+line_taken : (line : List ℕ) → SaysIfTaken (line_said line)
+line_taken line =
+    let words = cond (is_utf8 line) (words_said line) None in
+    either_taken (nat_lt MAX_LINE (length line)) None (cond (length line == 0) (Some parsed.Empty) words) tt
+    (either_taken (length line == 0) (Some parsed.Empty) words tt (either_taken (is_utf8 line) (words_said line) None (words_taken line) tt))
+
+-- what a line says
+pub said_taken : (line : List ℕ) (said : Parsed) → line_said line ≡ Some said → SaysTaken said
+said_taken line said is = subst SaysIfTaken is (line_taken line)
+
+-- the reply to one command is what is written for it
+pub one_answered : {T E : Type 0} (r : Result T E) (s : State) (said : Option Parsed) (command : Command) (old new : List ℕ) (engine : Engine)
+    → said ≡ Some (parsed.One command)
+    → OnOk r ((new ≡ old ++ reply_text (reply_to program_terms [] s command)) × Stands engine (state_after program_terms [] s command))
+    → OnOk r ((new ≡ old ++ said_reply s said) × Stands engine (said_after s said))
+one_answered (Ok x) s said command old new engine is both =
+    subst (λ o. (new ≡ old ++ said_reply s o) × Stands engine (said_after s o)) (sym is)
+    (both.0 ∙ ap (λ bs. old ++ bs) (sym (append-nil (reply_text (reply_to program_terms [] s command)))), both.1)
+one_answered (Err e) s said command old new engine is both = tt
+
+-- the replies to a begin and a settle, one behind the other, are what is written for a `calc`
+calc_said : (s : State) (kind : BeginKind) (old mid new : List ℕ)
+    → mid ≡ old ++ reply_text (reply_to program_terms [] s (commands.Begin kind))
+    → new ≡ mid ++ reply_text (reply_to program_terms [] (state_after program_terms [] s (commands.Begin kind)) commands.Settle)
+    → new ≡ old ++ said_reply s (Some (parsed.Calc kind))
+calc_said s kind old mid new first second =
+    let begun = reply_text (reply_to program_terms [] s (commands.Begin kind)) in
+    let settled = reply_text (reply_to program_terms [] (state_after program_terms [] s (commands.Begin kind)) commands.Settle) in
+    second ∙ ap (λ bs. bs ++ settled) first ∙ append_assoc old begun settled ∙ ap (λ bs. old ++ (begun ++ bs)) (sym (append-nil settled))
+
+-- the same of an engine that answered both
+pub calc_answered : {T E : Type 0} (r : Result T E) (s : State) (kind : BeginKind) (old mid new : List ℕ) (engine : Engine)
+    → mid ≡ old ++ reply_text (reply_to program_terms [] s (commands.Begin kind))
+    → OnOk r ((new ≡ mid ++ reply_text (reply_to program_terms [] (state_after program_terms [] s (commands.Begin kind)) commands.Settle))
+    × Stands engine (state_after program_terms [] (state_after program_terms [] s (commands.Begin kind)) commands.Settle))
+    → OnOk r ((new ≡ old ++ said_reply s (Some (parsed.Calc kind))) × Stands engine (said_after s (Some (parsed.Calc kind))))
+calc_answered (Ok x) s kind old mid new engine first both = (calc_said s kind old mid new first both.0, both.1)
+calc_answered (Err e) s kind old mid new engine first both = tt
