@@ -1,16 +1,35 @@
 #!/bin/sh
-# Runs the program on each script and prints the seconds that it took.
+# Runs the program on each script and prints the time that it took.
 
 bench=$(dirname -- "$(readlink -f -- "$0")")
 program=$bench/../bin/rtdhost
 script=$(mktemp) || exit 1
 trap 'rm -f "$script"' EXIT
 
-"$program" run </dev/null || exit
-for name in constants formula_book wide_sums; do
-    "$bench/$name.sh" >"$script" || exit
+# The nanoseconds that the program takes for the script that these words write.
+time_of() {
+    "$bench/$@" >"$script" || exit
     started=$(date +%s%N)
     "$program" run <"$script" >/dev/null || exit
     ended=$(date +%s%N)
-    awk -v name="$name" -v ns="$((ended - started))" 'BEGIN { printf "%s: %.2f seconds\n", name, ns / 1e9 }'
+    echo $((ended - started))
+}
+
+# Prints a time in seconds, behind its name.
+print_seconds() {
+    awk -v name="$1" -v ns="$2" 'BEGIN { printf "%s: %.2f seconds\n", name, ns / 1e9 }'
+}
+
+"$program" run </dev/null || exit
+for name in constants formula_book wide_sums fan; do
+    print_seconds "$name" "$(time_of "$name.sh")"
+done
+for order in forward backward; do
+    print_seconds "chain $order" "$(time_of chain.sh $order)"
+done
+for size in 1000 10000 50000; do
+    without=$(time_of edits.sh $size 0)
+    with=$(time_of edits.sh $size 2000)
+    awk -v size=$size -v ns="$((with - without))" \
+        'BEGIN { printf "edits in a book of %d: %.1f microseconds each\n", size, ns / 2000 / 1e3 }'
 done
