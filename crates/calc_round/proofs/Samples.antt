@@ -2,7 +2,7 @@
 use Rattle.std.proofs.Common.{◌≡◌, ℕ, Bool, true, false, cond, ◌||◌, ◌&&◌, Option, None, Some, is_some, List, [], ◌∷◌, ◌++◌, refl, ap, sym, subst, ◌∙◌}
 use Rattle.std.specs.List.{IsDistinct}
 use Rattle.std.specs.Option.{option_map}
-use Rattle.std.proofs.lemmas.Bool.{and_from, or_left, or_right, true≢false}
+use Rattle.std.proofs.lemmas.Bool.{and_from, or_right}
 use Rattle.std.proofs.lemmas.Map.Keys.{IsDistinct-push}
 use Rattle.cell_chain.specs.CellOrder.{entries_among}
 use Rattle.cell_chain.proofs.PublicLaws.{among-append, among-entries_among}
@@ -151,7 +151,7 @@ module _ (setting : Setting) (book : List (Cell × Content)) (store : StoreState
     pending_open = λ q h.
         let here = first_of_two (is_among entries q) (sym (all_among q) ∙ h) in
         and_from _ _ here (unfinished_formula q ∙ sym (start.cells q) ∙ here);
-    touched = start.touched;
+    touched = λ q h. start.touched q (unfinished_formula q ∙ sym (start.cells q) ∙ first_of_two (is_among entries q) (sym (all_among q) ∙ h));
     left = λ q h.
         let here = start.cells q ∙ sym (unfinished_formula q) ∙ h in
         or_right (is_circular book q) _ (all_among q ∙ and_from _ _ here here);

@@ -1,5 +1,4 @@
-use Rattle.std.proofs.Common.{rules, ◌≡◌, ◌∷◌, ◌++◌, [], Ok, Some, true, false, length, ap, sym, subst, ◌∙◌, arith}
-use Rattle.cell_chain.specs.CellOrder.{first_of}
+use Rattle.std.proofs.Common.{rules, ◌≡◌, ◌∷◌, ◌++◌, [], Ok, true, false, length, ap, sym, subst, ◌∙◌, arith}
 use Rattle.cell_refs.specs.Cell.{is_among}
 use Rattle.calc_round.specs.Rounds.{IsWorking, quiet_setting}
 use Rattle.calc_round.proofs.Chains.{as_many}
@@ -20,8 +19,8 @@ look-requires-clause-unfinished g c = (look-open (quiet_setting g.F.AddIns.answe
     c.looks.invariant.working (sym c.in-Some.ensures.first) c.next.ensures.left).1
 
 pub look-requires-clause-touched : goal.look-requires-clause-touched
-look-requires-clause-touched g c = c.looks.invariant.working.touched c.in-Some.cell (look-open (quiet_setting g.F.AddIns.answer) c.args.looker.now.book.now.contents c.looks.store c.looks.chain c.next.new.self c.looks.waiting.items c.in-Some.cell
-    c.looks.invariant.working (sym c.in-Some.ensures.first) c.next.ensures.left).1
+look-requires-clause-touched g c = (look-open (quiet_setting g.F.AddIns.answer) c.args.looker.now.book.now.contents c.looks.store c.looks.chain c.next.new.self c.looks.waiting.items c.in-Some.cell
+    c.looks.invariant.working (sym c.in-Some.ensures.first) c.next.ensures.left).3
 
 pub looks-preserved-in-Ok-true : goal.looks-preserved-in-Ok-true
 looks-preserved-in-Ok-true g c =
