@@ -151,7 +151,7 @@ module _ (setting : Setting) (book : List (Cell × Content)) (store : StoreState
     pending_open = λ q h.
         let here = first_of_two (is_among entries q) (sym (all_among q) ∙ h) in
         and_from _ _ here (unfinished_formula q ∙ sym (start.cells q) ∙ here);
-    touched = start.touched;
+    touched = λ q h. start.touched q (unfinished_formula q ∙ sym (start.cells q) ∙ first_of_two (is_among entries q) (sym (all_among q) ∙ h));
     left = λ q h.
         let here = start.cells q ∙ sym (unfinished_formula q) ∙ h in
         or_right (is_circular book q) _ (all_among q ∙ and_from _ _ here here);

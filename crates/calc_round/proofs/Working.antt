@@ -8,7 +8,7 @@ use Rattle.cell_chain.proofs.PublicLaws.{among-append, among-entries_among}
 use Rattle.cell_refs.specs.declared.grid.Cell.{Cell}
 use Rattle.cell_refs.specs.Cell.{is_among, same_cell}
 use Rattle.cell_refs.proofs.PublicLaws.{same_cell_is, same_cells}
-use Rattle.cell_store.specs.Store.{KeepsTouched, PutsPresent, StoreState, present_at}
+use Rattle.cell_store.specs.Store.{KeepsTouched, PutsPresent, StoreState, is_touched, present_at}
 use Rattle.cell_values.specs.declared.values.Value.{Value}
 use Rattle.workbook.specs.declared.contents.Content.{Content}
 use Rattle.workbook.specs.Book.{IsInOrder, cell_precedents, content_at, formula_cells, formula_count, is_formula}
@@ -125,7 +125,7 @@ module _ (setting : Setting) (book : List (Cell × Content)) where
       entries_once = working.entries_once;
       pending_once = (distinct-out waiting due c working.pending_once).1;
       pending_open = open_after;
-      touched = λ q h. touched q ∙ working.touched q (unfinished_both q h).1;
+      touched = λ q h. touched q ∙ working.touched q (among-out waiting due c q ∙ or_left _ (same_cell q c) h);
       left = left_after;
     }
 
@@ -147,11 +147,11 @@ module _ (setting : Setting) (book : List (Cell × Content)) where
   -- what a look needs of the cell
   pub look-open : (store : StoreState) (chain mid : CellOrder) (waiting : List Cell) (c : Cell) → IsWorking setting book store chain.entries (waiting ++ chain.due)
       → first_of chain.due ≡ Some c → mid ≡ record chain { due = behind_first chain.due }
-      → (is_among mid.entries c ≡ true) × (is_unfinished store c ≡ true) × (is_among mid.due c ≡ false)
+      → (is_among mid.entries c ≡ true) × (is_unfinished store c ≡ true) × (is_among mid.due c ≡ false) × (is_touched store c ≡ true)
   look-open store chain mid waiting c working first is =
       let start = looked store chain mid mid waiting c working first is (reordered-none mid) in
       let parts = last-open store mid.entries waiting mid.due c start in
-      (parts.0, parts.1, last-idle store mid.entries waiting mid.due c start)
+      (parts.0, parts.1, last-idle store mid.entries waiting mid.due c start, start.touched c (last-pending waiting mid.due c))
 
   -- one more cell that waits names an unfinished one
   pub stuck-next : (old new : StoreState) (waiting items : List Cell) (c : Cell) → new ≡ old → items ≡ waiting ++ c ∷ []
@@ -173,7 +173,7 @@ module _ (setting : Setting) (book : List (Cell × Content)) where
     entries_once = working.entries_once;
     pending_once = distinct-filter (is_among pending) entries working.entries_once;
     pending_open = λ q h. working.pending_open q (and_parts (is_among entries q) (is_among pending q) (sym (among-entries_among entries pending q) ∙ h)).1;
-    touched = working.touched;
+    touched = λ q h. working.touched q (and_parts (is_among entries q) (is_among pending q) (sym (among-entries_among entries pending q) ∙ h)).1;
     left = left_again;
   }
     where
@@ -246,6 +246,6 @@ module _ (setting : Setting) (book : List (Cell × Content)) where
     entries_once = working.entries_once;
     pending_once = distinct-none;
     pending_open = λ q h. cc;
-    touched = working.touched;
+    touched = λ q h. cc;
     left = λ q h. or_left (is_circular book q) false (ended.circular q h);
   })

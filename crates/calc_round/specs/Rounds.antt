@@ -36,8 +36,8 @@ pub record PresentMeans (setting : Setting) (book : List (Cell × Content)) (sto
   pub value : (q : Cell) (v : Value) → present_at store q ≡ Some (Some v) → meaning setting book q ≡ Val v
   pub formula : (q : Cell) → is_unfinished store q ≡ true → is_formula book q ≡ true
 
--- what is present has its meaning; the pending cells are unfinished entries of the chain, each once; each unfinished
--- cell is touched, and is circular or pending
+-- what is present has its meaning; the pending cells are unfinished and touched entries of the chain, each once; each
+-- unfinished cell is circular or pending
 pub record IsWorking (setting : Setting) (book : List (Cell × Content)) (store : StoreState)
     (entries pending : List Cell) : Type 0 where
   pub means : PresentMeans setting book store
@@ -46,7 +46,7 @@ pub record IsWorking (setting : Setting) (book : List (Cell × Content)) (store 
   pub pending_once : IsDistinct same_cell pending
   pub pending_open : (q : Cell) → is_among pending q ≡ true
       → (is_among entries q && is_unfinished store q) ≡ true
-  pub touched : (q : Cell) → is_unfinished store q ≡ true → is_touched store q ≡ true
+  pub touched : (q : Cell) → is_among pending q ≡ true → is_touched store q ≡ true
   pub left : (q : Cell) → is_unfinished store q ≡ true
       → (is_circular book q || is_among pending q) ≡ true
 

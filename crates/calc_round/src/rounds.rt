@@ -28,7 +28,6 @@ pub fn work_out<F: AddIns, L: Ledger>(
     store: &mut CellStore,
     steps: &mut Steps<L>,
 ) -> Result<(), Memory>
-    requires plain { book.now.functions ≡ [] }
     requires working { IsWorking (quiet_setting F.answer) book.now.contents store.old
         chain.old.entries chain.old.due }
     ensures done { OnOk result (IsWorkedOut (quiet_setting F.answer) book.now.contents store.new) }

@@ -25,7 +25,7 @@ type Texts<'a> = &'a [(u32, &'static str)];
 /// The values of rows, as words; None where a row has none.
 type Words<'a> = &'a [(u32, Option<&'static str>)];
 
-/// A book without registered functions, its chain and its values.
+/// A book, its chain and its values.
 #[derive(Drop)]
 struct Sheet {
     book: Book,
@@ -68,7 +68,6 @@ fn first_value(content: &Content) -> Result<Option<Value>, Memory>
 
 /// A sheet with nothing in it.
 fn empty_sheet(alloc: Global) -> Sheet
-    ensures plain { result.book.functions ≡ [] }
     ensures start { IsUnevaluated result.book.contents result.store result.chain.entries }
 {
     let book = Book::new(alloc);
@@ -94,11 +93,9 @@ fn append_formula(chain: &mut CellChain, cell: Cell, content: &Content) -> Resul
 
 /// Gives a cell without content a content.
 fn enter_content(sheet: &mut Sheet, cell: Cell, content: Content) -> Result<(), Fail>
-    requires plain { sheet.old.book.functions ≡ [] }
     requires start { IsUnevaluated sheet.old.book.contents sheet.old.store
         sheet.old.chain.entries }
     requires new { content_at sheet.old.book.contents cell ≡ None }
-    ensures plain { OnOk result (sheet.new.book.functions ≡ []) }
     ensures start { OnOk result (IsUnevaluated sheet.new.book.contents sheet.new.store
         sheet.new.chain.entries) }
 {
@@ -113,10 +110,8 @@ fn enter_content(sheet: &mut Sheet, cell: Cell, content: Content) -> Result<(), 
 
 /// Gives a cell of the first column what the text says.
 fn enter(alloc: Global, sheet: &mut Sheet, row: u32, text: &str) -> Result<(), Fail>
-    requires plain { sheet.old.book.functions ≡ [] }
     requires start { IsUnevaluated sheet.old.book.contents sheet.old.store
         sheet.old.chain.entries }
-    ensures plain { OnOk result (sheet.new.book.functions ≡ []) }
     ensures start { OnOk result (IsUnevaluated sheet.new.book.contents sheet.new.store
         sheet.new.chain.entries) }
 {
@@ -131,10 +126,8 @@ fn enter(alloc: Global, sheet: &mut Sheet, row: u32, text: &str) -> Result<(), F
 
 /// Makes all formula cells due.
 fn begin(alloc: Global, sheet: &mut Sheet) -> Result<(), Fail>
-    requires plain { sheet.old.book.functions ≡ [] }
     requires start { IsUnevaluated sheet.old.book.contents sheet.old.store
         sheet.old.chain.entries }
-    ensures plain { OnOk result (sheet.new.book.functions ≡ []) }
     ensures working { OnOk result (IsWorking (quiet_setting sample_answer) sheet.new.book.contents
         sheet.new.store sheet.new.chain.entries sheet.new.chain.due) }
 {
@@ -149,10 +142,8 @@ fn recalculate<L: Ledger>(
     sheet: &mut Sheet,
     steps: &mut Steps<L>,
 ) -> Result<(), Fail>
-    requires plain { sheet.old.book.functions ≡ [] }
     requires working { IsWorking (quiet_setting sample_answer) sheet.old.book.contents
         sheet.old.store sheet.old.chain.entries sheet.old.chain.due }
-    ensures plain { OnOk result (sheet.new.book.functions ≡ []) }
     ensures working { OnOk result (IsWorking (quiet_setting sample_answer) sheet.new.book.contents
         sheet.new.store sheet.new.chain.entries sheet.new.chain.due) }
 {

@@ -53,6 +53,7 @@ impl CellChain {
         ensures ok { OnOk result
             (self.new ≡ record self.old { entries = self.old.entries ++ cell ∷ [] }) }
         ensures refused { OnErr result (self.new ≡ self.old) }
+        ensures chain { IsCellChain self.new }
     {
         let number = self.numbering.add(cell)?;
         match append_number(&mut self.chain, &mut self.room, number) {
@@ -89,7 +90,8 @@ impl CellChain {
         requires entries { (cell : OneCell) → is_among due.now cell ≡ true
             → is_among self.old.entries cell ≡ true }
         requires once { IsDistinct same_cell due.now }
-        ensures { self.new ≡ record self.old { due = entries_among self.old.entries due.now } }
+        ensures due { self.new ≡ record self.old { due = entries_among self.old.entries due.now } }
+        ensures chain { IsCellChain self.new }
     {
         self.numbering.fill(&mut self.room, due);
         self.chain.rewind(&self.room);
@@ -99,6 +101,7 @@ impl CellChain {
     pub fn next<L: Ledger>(&mut self, steps: &mut Steps<L>) -> Option<Cell>
         ensures first { result ≡ first_of self.old.due }
         ensures left { self.new ≡ record self.old { due = behind_first self.old.due } }
+        ensures chain { IsCellChain self.new }
         ensures tick { steps.new ≡ steps.old + 1 }
     {
         let number = self.chain.next(steps)?;
@@ -123,10 +126,11 @@ impl CellChain {
         requires first { is_among self.old.entries x ≡ true }
         requires second { is_among self.old.entries y ≡ true }
         requires idle { is_among self.old.due x ≡ false }
-        ensures { self.new ≡ record self.old {
+        ensures moved { self.new ≡ record self.old {
           entries = if is_behind self.old.entries x y then self.old.entries
               else moved_behind self.old.entries x y;
         } }
+        ensures chain { IsCellChain self.new }
     {
         let first = self.numbering.number_at(x);
         let second = self.numbering.number_at(y);

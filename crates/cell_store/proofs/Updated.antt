@@ -28,6 +28,17 @@ shown-where_touched before old new w cell touched puts q = elim (same_cell cell 
   | false ↦ λ apart. ap (unwrap_or (before q)) (puts q ∙ ap (λ b. cond b w (old q)) apart)
 ] refl
 
+-- what is present of an untouched cell can be noted as what was shown
+pub shown-where_noted : {X : Type 0} (old new : Cell → Option X) (present : Cell → X) (w : X) (cell : Cell) → false ≡ is_some (old cell) → w ≡ present cell → ((q : Cell) → new q ≡ cond (same_cell cell q) (Some w) (old q))
+    → (q : Cell) → unwrap_or (new q) (present q) ≡ unwrap_or (old q) (present q)
+shown-where_noted old new present w cell untouched is notes q = elim (same_cell cell q) as (λ b. same_cell cell q ≡ b → unwrap_or (new q) (present q) ≡ unwrap_or (old q) (present q)) [
+  | true ↦ λ same.
+      ap (λ found. unwrap_or found (present q)) (notes q ∙ ap (λ b. cond b (Some w) (old q)) same)
+      ∙ is ∙ ap present (same_cell_is cell q same)
+      ∙ ap (λ found. unwrap_or found (present q)) (sym (subst (λ c. old c ≡ None) (same_cell_is cell q same) (none_from (old cell) untouched)))
+  | false ↦ λ apart. ap (λ found. unwrap_or found (present q)) (notes q ∙ ap (λ b. cond b (Some w) (old q)) apart)
+] refl
+
 -- an entry that is put at a new cell and taken away again leaves what there was
 back_again : {X : Type 0} (old mid new : Cell → Option X) (w : Option X) (cell : Cell) → old cell ≡ None → ((q : Cell) → mid q ≡ cond (same_cell cell q) w (old q)) → ((q : Cell) → new q ≡ cond (same_cell cell q) None (mid q))
     → (q : Cell) → new q ≡ old q

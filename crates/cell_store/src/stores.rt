@@ -3,7 +3,7 @@ ghost use Rattle.std.specs.Prelude.{◌≡◌};
 use super::gathering::gather;
 use super::sheets::sheet;
 use super::unknowns::next_unknown;
-use super::updates::{put, remove, replace};
+use super::updates::{put, remove, replace, touch};
 use cell_refs::{Area, Cell};
 use cell_values::{Memory, Value};
 use std::alloc::Global;
@@ -64,6 +64,28 @@ impl CellStore {
         ensures refused { OnErr result (self.new ≡ self.old) }
     {
         remove(&mut self.present, &mut self.before, cell)
+    }
+
+    /// Notes what the sheet shows of a cell, so that its value can be taken away without memory. A refusal changes
+    /// nothing.
+    pub fn touch(&mut self, cell: Cell) -> Result<(), Memory>
+        ensures present { KeepsPresent self.old self.new }
+        ensures touched { OnOk result (GainsTouched self.old self.new cell) }
+        ensures shown { KeepsShown self.old self.new }
+        ensures refused { OnErr result (self.new ≡ self.old) }
+    {
+        touch(&self.present, &mut self.before, cell)
+    }
+
+    /// Takes the value of a touched cell that is present away; it stays present. It takes no memory.
+    pub fn empty(&mut self, cell: Cell)
+        requires present { IsTrue (is_some (present_at self.old cell)) }
+        requires touched { IsTrue (is_touched self.old cell) }
+        ensures present { PutsPresent self.old self.new cell (Some None) }
+        ensures shown { KeepsShown self.old self.new }
+        ensures touched { KeepsTouched self.old self.new }
+    {
+        replace(&mut self.present, cell, None);
     }
 
     /// Gives a touched cell that is present its value. It takes no memory.

@@ -13,6 +13,8 @@ type Rows = &'static [(u32, Option<i64>)];
 enum Change {
     Put(u32, Option<i64>),
     Remove(u32),
+    Touch(u32),
+    Empty(u32),
     Finish(u32, i64),
     Complete,
 }
@@ -39,6 +41,13 @@ fn make(store: &mut CellStore, change: &Change) -> Result<(), Fail> {
         Change::Put(row, None) => store.put(cell(*row, 1), None)?,
         Change::Put(row, Some(n)) => store.put(cell(*row, 1), Some(Value::Num(*n)))?,
         Change::Remove(row) => store.remove(cell(*row, 1))?,
+        Change::Touch(row) => store.touch(cell(*row, 1))?,
+        Change::Empty(row) => {
+            let cell = cell(*row, 1);
+            if store.present(cell).is_some() && store.is_touched(cell) {
+                store.empty(cell);
+            }
+        }
         Change::Finish(row, n) => {
             let cell = cell(*row, 1);
             if store.present(cell).is_some() && store.is_touched(cell) {
@@ -83,7 +92,7 @@ fn assert_present(rt: &impl Abort, store: &CellStore, rows: Rows, step: usize) {
 
 #[test]
 fn the_sheet_shows_what_was_present_at_the_last_completion(rt: HostRuntime) -> Result<(), Fail> {
-    let steps: [(Change, Rows, Rows); 16] = [
+    let steps: [(Change, Rows, Rows); 22] = [
         (Change::Put(1, Some(10)), &[(1, Some(10))], &[]),
         (Change::Put(2, None), &[(1, Some(10)), (2, None)], &[]),
         (Change::Finish(2, 20), &[(1, Some(10)), (2, Some(20))], &[]),
@@ -151,6 +160,36 @@ fn the_sheet_shows_what_was_present_at_the_last_completion(rt: HostRuntime) -> R
             Change::Complete,
             &[(1, Some(5)), (3, Some(30))],
             &[(1, Some(5)), (3, Some(30))],
+        ),
+        (
+            Change::Empty(1),
+            &[(1, Some(5)), (3, Some(30))],
+            &[(1, Some(5)), (3, Some(30))],
+        ),
+        (
+            Change::Touch(1),
+            &[(1, Some(5)), (3, Some(30))],
+            &[(1, Some(5)), (3, Some(30))],
+        ),
+        (
+            Change::Empty(1),
+            &[(1, None), (3, Some(30))],
+            &[(1, Some(5)), (3, Some(30))],
+        ),
+        (
+            Change::Touch(1),
+            &[(1, None), (3, Some(30))],
+            &[(1, Some(5)), (3, Some(30))],
+        ),
+        (
+            Change::Touch(4),
+            &[(1, None), (3, Some(30))],
+            &[(1, Some(5)), (3, Some(30))],
+        ),
+        (
+            Change::Complete,
+            &[(1, None), (3, Some(30))],
+            &[(1, None), (3, Some(30))],
         ),
     ];
     let mut store = CellStore::new(rt.alloc());

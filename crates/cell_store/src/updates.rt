@@ -1,6 +1,6 @@
 //! Puts values into the two maps of a store: what is present, and what was shown before of each touched cell.
 
-ghost use Rattle.std.specs.Prelude.{◌≡◌, Bool, true, false, ◌||◌, Option, None, Some, is_some, IsSome, OnOk, OnErr, unwrap_or, if◌then◌else◌};
+ghost use Rattle.std.specs.Prelude.{◌≡◌, Bool, true, false, ◌||◌, Option, None, Some, is_some, IsSome, OnOk, OnErr, unwrap_or, if◌then◌else◌, IfOk};
 ghost use Rattle.std.specs.BTreeMap.{IsOrdered, IsUnchanged};
 ghost use Rattle.cell_refs.specs.declared.grid.Cell.{Cell as OneCell};
 ghost use Rattle.cell_refs.specs.Cell.{cell_cmp, same_cell};
@@ -20,6 +20,43 @@ pub fn replace<V: Drop>(map: &mut BTreeMap<Cell, V>, cell: Cell, value: V)
     if let Some(place) = map.get_mut(&cell) {
         *place = value;
     }
+}
+
+/// A copy of what is present at a cell.
+fn copied(
+    present: &BTreeMap<Cell, Option<Value>>,
+    cell: Cell,
+) -> Result<Option<Option<Value>>, Memory>
+    ensures { IfOk result (λ copy. copy ≡ entry_at present.now.entries cell) }
+{
+    match present.get(&cell) {
+        None => Ok(None),
+        Some(None) => Ok(Some(None)),
+        Some(Some(value)) => Ok(Some(Some(value.copy()?))),
+    }
+}
+
+/// Notes what is present at a cell as what was shown before, where the cell isn't touched yet.
+pub fn touch(
+    present: &BTreeMap<Cell, Option<Value>>,
+    before: &mut BTreeMap<Cell, Option<Option<Value>>>,
+    cell: Cell,
+) -> Result<(), Memory>
+    requires { AreInOrder before.old.entries }
+    ensures ordered { AreInOrder before.new.entries }
+    ensures touched { OnOk result ((q : OneCell) → is_some (entry_at before.new.entries q)
+        ≡ (same_cell cell q || is_some (entry_at before.old.entries q))) }
+    ensures shown { (q : OneCell)
+        → unwrap_or (entry_at before.new.entries q) (entry_at present.now.entries q)
+        ≡ unwrap_or (entry_at before.old.entries q) (entry_at present.now.entries q) }
+    ensures refused { OnErr result (before.new.entries ≡ before.old.entries) }
+{
+    if before.contains_key(&cell) {
+        return Ok(());
+    }
+    let shown = copied(present, cell)?;
+    before.insert(cell, shown)?;
+    Ok(())
 }
 
 /// Makes a value the present one of a cell.

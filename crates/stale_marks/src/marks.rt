@@ -79,7 +79,8 @@ impl Marks {
 
     /// How many cells are marked.
     pub fn count(&self) -> usize
-        ensures { result ≡ length self.now }
+        ensures count { result ≡ length self.now }
+        ensures ordered { IsStrictlySortedBy cell_cmp self.now }
     {
         self.marks.len()
     }

@@ -20,8 +20,8 @@ look-requires-clause-unfinished g c = (look-open (quiet_setting g.F.AddIns.answe
     c.looks.invariant.working (sym c.in-Some.ensures.first) c.next.ensures.left).1
 
 pub look-requires-clause-touched : goal.look-requires-clause-touched
-look-requires-clause-touched g c = c.looks.invariant.working.touched c.in-Some.cell (look-open (quiet_setting g.F.AddIns.answer) c.args.looker.now.book.now.contents c.looks.store c.looks.chain c.next.new.self c.looks.waiting.items c.in-Some.cell
-    c.looks.invariant.working (sym c.in-Some.ensures.first) c.next.ensures.left).1
+look-requires-clause-touched g c = (look-open (quiet_setting g.F.AddIns.answer) c.args.looker.now.book.now.contents c.looks.store c.looks.chain c.next.new.self c.looks.waiting.items c.in-Some.cell
+    c.looks.invariant.working (sym c.in-Some.ensures.first) c.next.ensures.left).3
 
 pub looks-preserved-in-Ok-true : goal.looks-preserved-in-Ok-true
 looks-preserved-in-Ok-true g c =

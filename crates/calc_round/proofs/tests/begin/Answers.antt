@@ -10,6 +10,6 @@ returns-clause-working c =
     let setting = quiet_setting sample_answer in
     let book = c.args.sheet.now.book.contents in
     let entries = c.args.sheet.now.chain.entries in
-    subst (λ chain. IsWorking setting book c.args.sheet.now.store chain.entries chain.due) (sym c.rewind.ensures)
+    subst (λ chain. IsWorking setting book c.args.sheet.now.store chain.entries chain.due) (sym c.rewind.ensures.due)
     (unevaluated-working setting book c.args.sheet.now.store entries c.requires.start (entries_among entries c.deref.result.now)
     (ap (entries_among entries) (c.deref.ensures.value ∙ c.in_ok-cells.ensures.entries)))

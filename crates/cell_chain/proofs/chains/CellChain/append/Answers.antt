@@ -1,6 +1,6 @@
-use Rattle.std.proofs.Common.{◌≡◌, ◌++◌, ◌∷◌, [], false, ap, subst, sym, ◌∙◌}
+use Rattle.std.proofs.Common.{rules, vec_capacity, ◌≡◌, ◌++◌, ◌∷◌, [], false, ap, subst, sym, ◌∙◌}
 use Rattle.cell_refs.specs.Cell.{is_among}
-use Rattle.cell_chain.proofs.CellLaws.{not-numbered, numbered-append, view-append}
+use Rattle.cell_chain.proofs.CellLaws.{is-cell-chain, not-numbered, numbered-append, view-append}
 use Rattle.cell_chain.proofs.chains.CellChain.append.Goals as goal
 
 pub add-requires : goal.add-requires
@@ -20,3 +20,12 @@ returns-in-Ok-clause-ok c =
     view-append c.self.inside.numbering c.add.new.self c.self.inside.chain c.append_number.new.chain _ c.in_ok-number.number c.args.cell c.self.invariant
     c.in_ok-number.ensures.free c.in_ok-number.ensures.added c.in_ok-number.ensures.others c.in-Ok.ensures.ok
     ∙ ap (λ v. record { entries = v.entries ++ c.args.cell ∷ []; due = v.due }) c.self.view_is
+
+pub returns-in-Ok-clause-chain : goal.returns-in-Ok-clause-chain
+returns-in-Ok-clause-chain c = is-cell-chain c.add.new.self c.append_number.new.chain _ (invariant_of-self-in-Ok c)
+
+pub returns-in_err-number-clause-chain : goal.returns-in_err-number-clause-chain
+returns-in_err-number-clause-chain c = is-cell-chain c.add.new.self c.self.inside.chain (vec_capacity c.self.inside.room) (search rules)
+
+pub returns-in-Err-clause-chain : goal.returns-in-Err-clause-chain
+returns-in-Err-clause-chain c = is-cell-chain c.remove.new.self c.append_number.new.chain (vec_capacity c.append_number.new.room) (search rules)

@@ -1,7 +1,7 @@
 use Rattle.std.proofs.Common.{◌≡◌, true, false, cond, ap, subst, sym, ◌∙◌}
 use Rattle.cell_refs.specs.Cell.{is_among}
 use Rattle.cell_chain.specs.CellOrder.{is_behind, moved_behind}
-use Rattle.cell_chain.proofs.CellLaws.{apart-numbers, entry-numbered, idle-number, numbered-entry, numbered-moved, view-moved}
+use Rattle.cell_chain.proofs.CellLaws.{apart-numbers, entry-numbered, idle-number, is-cell-chain, numbered-entry, numbered-moved, view-moved}
 use Rattle.cell_chain.proofs.chains.CellChain.move_behind.Goals as goal
 
 pub number_at-first-requires : goal.number_at-first-requires
@@ -30,8 +30,11 @@ invariant_of-self c =
     (idle-number slots chain c.number_at-first.result c.args.x c.number_at-first.ensures (subst (λ v. is_among v.due c.args.x ≡ false) (sym c.self.view_is) c.requires.idle))
     c.move_behind.ensures
 
-pub returns : goal.returns
-returns c =
+pub returns-clause-moved : goal.returns-clause-moved
+returns-clause-moved c =
     view-moved c.self.inside.numbering c.self.inside.chain c.move_behind.new.self _ c.number_at-first.result c.number_at-second.result c.args.x c.args.y c.self.invariant
     c.number_at-first.ensures c.number_at-second.ensures c.move_behind.ensures
     ∙ ap (λ v. record { entries = cond (is_behind v.entries c.args.x c.args.y) v.entries (moved_behind v.entries c.args.x c.args.y); due = v.due }) c.self.view_is
+
+pub returns-clause-chain : goal.returns-clause-chain
+returns-clause-chain c = is-cell-chain c.self.inside.numbering c.move_behind.new.self _ (invariant_of-self c)

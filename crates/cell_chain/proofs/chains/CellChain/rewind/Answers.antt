@@ -3,7 +3,7 @@ use Rattle.cell_refs.specs.Cell.{is_among}
 use Rattle.cell_chain.specs.CellOrder.{entries_among}
 use Rattle.calc_chain.specs.Chain.{has}
 use Rattle.cell_chain.specs.Numbering.{cell_at}
-use Rattle.cell_chain.proofs.CellLaws.{entry-numbered, numbered-rewound, numbers-once, room-enough, view-rewound}
+use Rattle.cell_chain.proofs.CellLaws.{entry-numbered, is-cell-chain, numbered-rewound, numbers-once, room-enough, view-rewound}
 use Rattle.cell_chain.proofs.chains.CellChain.rewind.Goals as goal
 
 pub fill-requires-clause-numbered : goal.fill-requires-clause-numbered
@@ -24,9 +24,12 @@ pub invariant_of-self : goal.invariant_of-self
 invariant_of-self c =
     numbered-rewound c.self.inside.numbering c.self.inside.chain c.rewind.new.self _ _ c.deref.result.now c.self.invariant c.rewind.ensures c.fill.ensures.room
 
-pub returns : goal.returns
-returns c =
+pub returns-clause-due : goal.returns-clause-due
+returns-clause-due c =
     view-rewound c.self.inside.numbering c.self.inside.chain c.rewind.new.self _ c.deref.result.now c.args.due.now c.self.invariant
     (ap (map (cell_at c.self.inside.numbering)) c.deref.ensures.value ∙ c.fill.ensures.cells)
     (λ x h. c.fill.ensures.used x (ap (λ xs. has xs x) (sym c.deref.ensures.value) ∙ h)) c.rewind.ensures
     ∙ ap (λ v. record { entries = v.entries; due = entries_among v.entries c.args.due.now }) c.self.view_is
+
+pub returns-clause-chain : goal.returns-clause-chain
+returns-clause-chain c = is-cell-chain c.self.inside.numbering c.rewind.new.self _ (invariant_of-self c)
