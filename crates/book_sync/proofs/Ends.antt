@@ -1,19 +1,19 @@
 -- What stands where table, marks and store follow the book.
-use Rattle.std.proofs.Common.{◌≡◌, true, false, List, [], ◌⊎◌, None, Some, Result, Ok, Err, OnOk, ⊎_elim, inl, inr, refl, sym, ◌∙◌}
+use Rattle.std.proofs.Common.{◌≡◌, Bool, true, false, List, [], ◌⊎◌, None, Some, Result, Ok, Err, OnOk, ⊎_elim, inl, inr, refl, sym, ◌∙◌}
 use Rattle.cell_refs.specs.declared.areas.Area.{Area}
 use Rattle.cell_refs.specs.declared.grid.Cell.{Cell}
 use Rattle.std.specs.Map.{lookup}
 use Rattle.cell_refs.specs.Cell.{is_among, same_cell}
 use Rattle.cell_refs.specs.Reaching.{Reaches}
-use Rattle.cell_store.specs.Store.{StoreState, is_touched, present_at}
+use Rattle.cell_store.specs.Store.{KeepsShown, StoreState, is_touched, present_at, shown_at}
 use Rattle.dep_table.specs.Table.{is_reader}
 use Rattle.stale_marks.specs.Marks.{AreMarked}
 use Rattle.workbook.specs.declared.contents.Content.{Content}
 use Rattle.workbook.specs.Book.{cell_precedents, content_at}
 use Rattle.workbook.specs.Stale.{is_stale}
-use Rattle.book_sync.specs.Following.{FollowsChanged, TableFollows, formula_areas, present_by_content}
+use Rattle.book_sync.specs.Following.{FollowsChanged, ShowsWhereClean, TableFollows, formula_areas, present_by_content}
 use Rattle.book_sync.specs.Steps.{AreEmpty, IsInStep, PutsAmong}
-use Rattle.book_sync.proofs.Marking.{formula_unvalued, marked-stale, stale-formula, stale-reaches}
+use Rattle.book_sync.proofs.Marking.{formula_unvalued, marked-stale, same_truth, stale-formula, stale-reaches}
 
 -- what follows from one fact with Ok follows from another that leads to it
 pub ok-leads : {E : Type 0} (r : Result (Unit {0}) E) (P Q : Type 0) → (P → Q) → OnOk r P → OnOk r Q
@@ -40,10 +40,22 @@ pub follows-marked : (book : List (Cell × Content)) (changed marks : List Cell)
 follows-marked book changed marks table store follows steps marked readers =
     marked-stale book table (follows-all book changed table store follows steps) marks changed (λ c here. (steps c here).ordered) marked readers
 
--- only changed cells, and those from which one is reached, are touched by the first step
-pub only-changed : (book : List (Cell × Content)) (changed : List Cell) (old new : StoreState) → PutsAmong changed old new
-    → (q : Cell) → is_touched new q ≡ true → (is_touched old q ≡ true) ⊎ Reaches (cell_precedents book) changed q
-only-changed book changed old new puts q h = ⊎_elim (λ before. inl before) (λ among. inr (0, among)) (puts.only q h)
+-- what isn't put is touched if it was
+pub same-touched : (cells : List Cell) (old new : StoreState) → PutsAmong cells old new → (q : Cell) → is_among cells q ≡ false → is_touched new q ≡ is_touched old q
+same-touched cells old new puts q none = same_truth (is_touched new q) (is_touched old q)
+    (λ h. ⊎_elim (λ before. before) (λ among. absurd (let e : true ≡ false = sym among ∙ none in cc)) (puts.only q h))
+    (puts.kept q)
+
+-- where no changed cell is reached, what is present is still shown
+pub still-clean : (book : List (Cell × Content)) (changed : List Cell) (old new : StoreState)
+    → ((q : Cell) → is_among changed q ≡ false → is_stale book changed q ≡ false → present_at new q ≡ present_at old q) → KeepsShown old new
+    → ShowsWhereClean book changed old → ShowsWhereClean book changed new
+still-clean book changed old new others shown clean q = either (is_among changed q) refl (is_stale book changed q) refl
+  where
+    either : (a : Bool) → is_among changed q ≡ a → (b : Bool) → is_stale book changed q ≡ b → (present_at new q ≡ shown_at new q) ⊎ Reaches (cell_precedents book) changed q
+    either true here b h = inr (0, here)
+    either false none true stale = inr (stale-reaches book changed q stale)
+    either false none false fresh = ⊎_elim (λ same. inl (others q none fresh ∙ same ∙ sym (shown q))) (λ r. inr r) (clean q)
 
 module _ (book : List (Cell × Content)) (changed marks : List Cell) (old mid new : StoreState) (is : (q : Cell) → is_among marks q ≡ is_stale book changed q)
     (first : PutsAmong changed old mid) (second : PutsAmong marks mid new) where
@@ -51,12 +63,13 @@ module _ (book : List (Cell × Content)) (changed marks : List Cell) (old mid ne
   pub others-kept : (q : Cell) → is_among changed q ≡ false → is_stale book changed q ≡ false → present_at new q ≡ present_at old q
   others-kept q unchanged fresh = second.others q (is q ∙ fresh) ∙ first.others q unchanged
 
-  -- and isn't touched
-  pub only-reached : (q : Cell) → is_touched new q ≡ true → (is_touched old q ≡ true) ⊎ Reaches (cell_precedents book) changed q
-  only-reached q h =
-      ⊎_elim (λ before. only-changed book changed old mid first q before)
-      (λ marked. inr (stale-reaches book changed q (sym (is q) ∙ marked)))
-      (second.only q h)
+  -- and is touched if it was
+  pub touched-kept : (q : Cell) → is_among changed q ≡ false → is_stale book changed q ≡ false → is_touched new q ≡ is_touched old q
+  touched-kept q unchanged fresh = same-touched marks mid new second q (is q ∙ fresh) ∙ same-touched changed old mid first q unchanged
+
+  -- so what is present is still shown where no changed cell is reached
+  pub both-clean : ShowsWhereClean book changed old → ShowsWhereClean book changed new
+  both-clean = still-clean book changed old new others-kept (λ q. second.shown q ∙ first.shown q)
 
   -- each changed cell has what its content says
   pub changed-follows : (table : List (Cell × List Area)) → ((q : Cell) → is_among changed q ≡ true → IsInStep book table mid q) → AreEmpty marks new → FollowsChanged book changed new

@@ -1,11 +1,11 @@
 -- What a host keeps beside its book, in step with the book but for the changed cells.
-use Rattle.std.specs.Prelude.{◌≡◌, true, false, Option, None, Some, List}
+use Rattle.std.specs.Prelude.{◌≡◌, ◌⊎◌, true, false, Option, None, Some, List}
 use Rattle.std.specs.Map.{lookup}
 use Rattle.cell_refs.specs.declared.areas.Area.{Area}
 use Rattle.cell_refs.specs.declared.grid.Cell.{Cell}
 use Rattle.cell_refs.specs.Cell.{is_among, same_cell}
 use Rattle.cell_refs.specs.Reaching.{Reaches}
-use Rattle.cell_store.specs.Store.{StoreState, is_touched, present_at}
+use Rattle.cell_store.specs.Store.{StoreState, present_at, shown_at}
 use Rattle.cell_values.specs.declared.values.Value.{Value}
 use Rattle.formula_parse.specs.Tree.{areas_named}
 use Rattle.workbook.specs.declared.contents.Content.{Content}
@@ -31,7 +31,7 @@ abbrev pub FollowsChanged : List (Cell × Content) → List Cell → StoreState 
 FollowsChanged book changed store = (cell : Cell) → is_among changed cell ≡ true
     → present_at store cell ≡ present_by_content (content_at book cell)
 
--- from each touched cell a changed cell is reached along the cells that formulas name, in no steps where it is changed
-abbrev pub IsTouchedWhereStale : List (Cell × Content) → List Cell → StoreState → Type 0
-IsTouchedWhereStale book changed store = (cell : Cell) → is_touched store cell ≡ true
-    → Reaches (cell_precedents book) changed cell
+-- each cell has present what the sheet shows of it, or a changed cell is reached from it along the cells that formulas name
+abbrev pub ShowsWhereClean : List (Cell × Content) → List Cell → StoreState → Type 0
+ShowsWhereClean book changed store = (cell : Cell) → (present_at store cell ≡ shown_at store cell)
+    ⊎ Reaches (cell_precedents book) changed cell

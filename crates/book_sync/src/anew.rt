@@ -1,10 +1,8 @@
 ghost use Rattle.std.specs.Prelude.{◌≡◌, [], ◌⊎◌, None, Some, true, false, IfOk, OnOk};
-ghost use Rattle.book_sync.specs.Following.{FollowsChanged, TableFollows};
+ghost use Rattle.book_sync.specs.Following.{FollowsChanged, ShowsWhereClean, TableFollows};
 ghost use Rattle.cell_refs.specs.declared.grid.Cell.{Cell as OneCell};
 ghost use Rattle.cell_refs.specs.Cell.{is_among};
-ghost use Rattle.cell_refs.specs.Reaching.{Reaches};
 ghost use Rattle.cell_store.specs.Store.{KeepsShown, is_touched, present_at};
-ghost use Rattle.workbook.specs.Book.{cell_precedents};
 ghost use Rattle.workbook.specs.Stale.{is_stale};
 
 use super::following::follow;
@@ -27,15 +25,19 @@ pub fn follow_anew(
     marks: &mut Marks,
     store: &mut CellStore,
 ) -> Result<(), Memory>
-    // Whatever the answer: a table that followed still does, and only changed and stale cells lose what they had.
+    // Whatever the answer: a table that followed still does, and changed and stale cells alone lose what they had.
+    // So what is present is still shown where no changed cell is reached.
     ensures again { TableFollows book.now.contents changed.now.keys table.old
         → TableFollows book.now.contents changed.now.keys table.new }
     ensures shown { KeepsShown store.old store.new }
     ensures others { (q : OneCell) → is_among changed.now.keys q ≡ false
         → is_stale book.now.contents changed.now.keys q ≡ false
         → present_at store.new q ≡ present_at store.old q }
-    ensures only { (q : OneCell) → is_touched store.new q ≡ true → (is_touched store.old q ≡ true)
-        ⊎ Reaches (cell_precedents book.now.contents) changed.now.keys q }
+    ensures kept { (q : OneCell) → is_among changed.now.keys q ≡ false
+        → is_stale book.now.contents changed.now.keys q ≡ false
+        → is_touched store.new q ≡ is_touched store.old q }
+    ensures clean { ShowsWhereClean book.now.contents changed.now.keys store.old
+        → ShowsWhereClean book.now.contents changed.now.keys store.new }
 
     // With Ok the table follows the book everywhere, and so do the marks.
     ensures table { OnOk result (TableFollows book.now.contents [] table.new) }
