@@ -6,7 +6,10 @@ ghost use Rattle.workbook.specs.Book.{IsRefusal, exceeds_cells, exceeds_formulas
 ghost use Rattle.workbook.specs.Meaning.{sheet_of};
 ghost use Rattle.workbook.specs.Stale.{stale_count};
 
+use super::edits::{clear_content, set_content};
+use super::settling::evaluate;
 use addin_types::AddIns;
+use book_sync::what_follows_a_book_still_does_after_an_edit;
 use cell_chain::CellChain;
 use cell_refs::Cell;
 use cell_store::CellStore;
@@ -15,6 +18,8 @@ use dep_table::DepTable;
 use stale_marks::Marks;
 use std::alloc::Global;
 use std::collections::BTreeSet;
+use std::marker::Brand;
+use std::sync::ledger::Blank;
 use workbook::{BeginKind, Book, CELL_LIMIT, Content, FORMULA_LIMIT, SetFault};
 
 /// A book with what a recalculation needs beside it: the cells that were changed since the last completed one, the
@@ -71,7 +76,14 @@ impl CalcBook {
         if self.exceeds_formulas(cell, &content) {
             return Err(SetFault::FormulaLimit(content));
         }
-        Err(SetFault::Memory(content))
+        what_follows_a_book_still_does_after_an_edit();
+        set_content(
+            &mut self.book,
+            &mut self.changed,
+            &mut self.chain,
+            cell,
+            content,
+        )
     }
 
     /// Takes the content of a cell away, where it has one. A refusal changes nothing.
@@ -81,7 +93,8 @@ impl CalcBook {
         ensures refused { (answer : Answers) (s : CalcState) → AtRest answer self.old s
             → OnErr result (AtRest answer self.new s) }
     {
-        Err(Memory)
+        what_follows_a_book_still_does_after_an_edit();
+        clear_content(&mut self.book, &mut self.changed, &mut self.chain, cell)
     }
 
     /// Begins a recalculation. A refusal changes nothing that shows.
@@ -104,7 +117,20 @@ impl CalcBook {
         ensures refused { (s : CalcState) → InRound F.answer self.old s
             → OnErr result (InRound F.answer self.new s) }
     {
-        Err(Memory)
+        evaluate::<F, Brand>(
+            self.alloc,
+            Blank::new(1),
+            round,
+            &self.book,
+            addins,
+            &mut self.chain,
+            &mut self.store,
+        )?;
+        let count = self.marks.count();
+        self.store.complete();
+        self.marks.clear();
+        self.changed.clear();
+        Ok(count as u64)
     }
 
     /// What the sheet shows: the cells with content at the last completed recalculation, in cell order.
@@ -112,7 +138,7 @@ impl CalcBook {
         ensures { (answer : Answers) (s : CalcState) → Holds answer self.now s
             → IfOk result (λ sheet. sheet.items ≡ sheet_of (quiet_setting answer) s.completed) }
     {
-        Err(Memory)
+        self.store.sheet(self.alloc)
     }
 
     /// The formula cells, in the order of the chain.

@@ -3,6 +3,8 @@
 #![tactic(auto)]
 
 mod calc_books;
+mod edits;
+mod settling;
 
 pub use calc_books::CalcBook;
 pub use cell_values::Memory;
