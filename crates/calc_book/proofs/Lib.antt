@@ -1,1 +1,4 @@
--- Lemmas of this crate.
+-- Laws of a book that recalculates.
+mod EditLaws
+mod SheetLaws
+mod SettleLaws

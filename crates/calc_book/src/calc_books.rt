@@ -76,6 +76,7 @@ impl CalcBook {
         if self.exceeds_formulas(cell, &content) {
             return Err(SetFault::FormulaLimit(content));
         }
+        // The table and the store stay as they are, and so does what they have off the changed cells.
         what_follows_a_book_still_does_after_an_edit();
         set_content(
             &mut self.book,
@@ -93,6 +94,7 @@ impl CalcBook {
         ensures refused { (answer : Answers) (s : CalcState) → AtRest answer self.old s
             → OnErr result (AtRest answer self.new s) }
     {
+        // As for a content that is given.
         what_follows_a_book_still_does_after_an_edit();
         clear_content(&mut self.book, &mut self.changed, &mut self.chain, cell)
     }
@@ -126,6 +128,7 @@ impl CalcBook {
             &mut self.chain,
             &mut self.store,
         )?;
+        // From here on nothing takes memory.
         let count = self.marks.count();
         self.store.complete();
         self.marks.clear();
