@@ -1,0 +1,4 @@
+-- Laws of a book that recalculates.
+mod EditLaws
+mod SheetLaws
+mod SettleLaws

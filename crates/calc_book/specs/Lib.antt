@@ -1,0 +1,5 @@
+-- What the product means.
+pub mod CalcState
+-- What the crate's own functions keep.
+pub mod Keeping
+pub mod Edits

@@ -1,0 +1,180 @@
+ghost use Rattle.std.specs.Prelude.{◌≡◌, None, Some, IfOk, OnOk, OnErr, MatchResult};
+ghost use Rattle.calc_book.specs.CalcState.{CalcState, calc_begin, calc_clear, calc_set, calc_settle, first_calc};
+ghost use Rattle.calc_book.specs.Keeping.{Answers, AtRest, Holds, InRound, Rests, Runs};
+ghost use Rattle.calc_round.specs.Rounds.{quiet_setting};
+ghost use Rattle.workbook.specs.Book.{IsRefusal, exceeds_cells, exceeds_formulas, is_formula, limit_fault};
+ghost use Rattle.workbook.specs.Meaning.{sheet_of};
+ghost use Rattle.workbook.specs.Stale.{stale_count};
+
+use super::edits::{clear_content, set_content};
+use super::settling::evaluate;
+use addin_types::AddIns;
+use book_sync::what_follows_a_book_still_does_after_an_edit;
+use cell_chain::CellChain;
+use cell_refs::Cell;
+use cell_store::CellStore;
+use cell_values::{Memory, Value};
+use dep_table::DepTable;
+use stale_marks::Marks;
+use std::alloc::Global;
+use std::collections::BTreeSet;
+use std::marker::Brand;
+use std::sync::ledger::Blank;
+use workbook::{BeginKind, Book, CELL_LIMIT, Content, FORMULA_LIMIT, SetFault};
+
+/// A book with what a recalculation needs beside it: the cells that were changed since the last completed one, the
+/// dependency table, the marks of stale cells, the chain of formula cells, and the values of cells with the sheet.
+#[derive(Drop)]
+pub struct CalcBook {
+    alloc: Global,
+    book: Book,
+    changed: BTreeSet<Cell>,
+    table: DepTable,
+    marks: Marks,
+    chain: CellChain,
+    store: CellStore,
+}
+
+impl CalcBook {
+    /// An empty book, of which an empty sheet is shown.
+    pub fn new(alloc: Global) -> CalcBook
+        ensures { (answer : Answers) → AtRest answer result first_calc }
+    {
+        CalcBook {
+            alloc,
+            book: Book::new(alloc),
+            changed: BTreeSet::new(alloc),
+            table: DepTable::new(alloc),
+            marks: Marks::new(alloc),
+            chain: CellChain::new(alloc),
+            store: CellStore::new(alloc),
+        }
+    }
+
+    /// The book as it is, which the sheet doesn't show before a recalculation is completed.
+    pub fn book(&self) -> &Book
+        ensures { result.now ≡ self.now.book }
+    {
+        &self.book
+    }
+
+    /// Gives a cell this content, in place of any that it has. A refusal gives the content back and changes nothing.
+    pub fn set(&mut self, cell: Cell, content: Content) -> Result<(), SetFault>
+        ensures ok { (answer : Answers) (s : CalcState) → AtRest answer self.old s
+            → OnOk result (AtRest answer self.new (calc_set s cell content)) }
+        ensures refused { (answer : Answers) (s : CalcState) → AtRest answer self.old s
+            → OnErr result (AtRest answer self.new s) }
+
+        // A limit is answered exactly where it would be passed, that of cells first; else memory may be wanting.
+        ensures limits { MatchResult result
+            (λ _. limit_fault self.old.book.contents cell content ≡ None)
+            (IsRefusal (limit_fault self.old.book.contents cell content) content) }
+    {
+        if self.exceeds_cells(cell) {
+            return Err(SetFault::CellLimit(content));
+        }
+        if self.exceeds_formulas(cell, &content) {
+            return Err(SetFault::FormulaLimit(content));
+        }
+        // The table and the store stay as they are, and so does what they have off the changed cells.
+        what_follows_a_book_still_does_after_an_edit();
+        set_content(
+            &mut self.book,
+            &mut self.changed,
+            &mut self.chain,
+            cell,
+            content,
+        )
+    }
+
+    /// Takes the content of a cell away, where it has one. A refusal changes nothing.
+    pub fn clear(&mut self, cell: Cell) -> Result<(), Memory>
+        ensures ok { (answer : Answers) (s : CalcState) → AtRest answer self.old s
+            → OnOk result (AtRest answer self.new (calc_clear s cell)) }
+        ensures refused { (answer : Answers) (s : CalcState) → AtRest answer self.old s
+            → OnErr result (AtRest answer self.new s) }
+    {
+        // As for a content that is given.
+        what_follows_a_book_still_does_after_an_edit();
+        clear_content(&mut self.book, &mut self.changed, &mut self.chain, cell)
+    }
+
+    /// Begins a recalculation. A refusal changes nothing that shows.
+    pub fn begin(&mut self, kind: BeginKind) -> Result<(), Memory>
+        requires rest { Rests self.old }
+        ensures ok { (answer : Answers) (s : CalcState) → AtRest answer self.old s
+            → OnOk result (InRound answer self.new (calc_begin s kind)) }
+        ensures refused { (answer : Answers) (s : CalcState) → AtRest answer self.old s
+            → OnErr result (AtRest answer self.new s) }
+    {
+        Err(Memory)
+    }
+
+    /// Completes the recalculation, and answers how many cells were stale. After a refusal it can be called again.
+    pub fn settle<F: AddIns>(&mut self, round: u64, addins: &F) -> Result<u64, Memory>
+        requires runs { Runs F.answer self.old }
+        ensures ok { (s : CalcState) → InRound F.answer self.old s
+            → IfOk result (λ count. (count ≡ stale_count s.book s.changed)
+            × AtRest F.answer self.new (calc_settle s)) }
+        ensures refused { (s : CalcState) → InRound F.answer self.old s
+            → OnErr result (InRound F.answer self.new s) }
+    {
+        evaluate::<F, Brand>(
+            self.alloc,
+            Blank::new(1),
+            round,
+            &self.book,
+            addins,
+            &mut self.chain,
+            &mut self.store,
+        )?;
+        // From here on nothing takes memory.
+        let count = self.marks.count();
+        self.store.complete();
+        self.marks.clear();
+        self.changed.clear();
+        Ok(count as u64)
+    }
+
+    /// What the sheet shows: the cells with content at the last completed recalculation, in cell order.
+    pub fn sheet(&self) -> Result<Vec<(Cell, Option<Value>)>, Memory>
+        ensures { (answer : Answers) (s : CalcState) → Holds answer self.now s
+            → IfOk result (λ sheet. sheet.items ≡ sheet_of (quiet_setting answer) s.completed) }
+    {
+        self.store.sheet(self.alloc)
+    }
+
+    /// The formula cells, in the order of the chain.
+    pub fn chain(&self) -> Result<Vec<Cell>, Memory>
+        ensures { IfOk result (λ cells. cells.items ≡ self.now.chain.entries) }
+    {
+        match self.chain.list(self.alloc) {
+            Ok(cells) => Ok(cells),
+            Err(_) => Err(Memory),
+        }
+    }
+
+    /// Whether a content at this cell would be that of one cell too many.
+    fn exceeds_cells(&self, cell: Cell) -> bool
+        ensures test { result ≡ exceeds_cells self.now.book.contents cell }
+    {
+        self.book.get(cell).is_none() && self.book.cells() >= CELL_LIMIT
+    }
+
+    /// Whether this content at the cell would be one formula too many.
+    fn exceeds_formulas(&self, cell: Cell, content: &Content) -> bool
+        ensures test { result ≡ exceeds_formulas self.now.book.contents cell content.now }
+    {
+        content.is_formula() && !self.has_formula(cell) && self.book.formulas() >= FORMULA_LIMIT
+    }
+
+    /// Whether a cell has a formula.
+    fn has_formula(&self, cell: Cell) -> bool
+        ensures { result ≡ is_formula self.now.book.contents cell }
+    {
+        match self.book.get(cell) {
+            Some(content) => content.is_formula(),
+            None => false,
+        }
+    }
+}

@@ -1,0 +1,10 @@
+//! A book that recalculates: edits are noted as they come, and a recalculation brings what follows the book in step with
+//! it and evaluates what is stale.
+#![tactic(auto)]
+
+mod calc_books;
+mod edits;
+mod settling;
+
+pub use calc_books::CalcBook;
+pub use cell_values::Memory;
