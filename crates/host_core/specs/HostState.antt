@@ -32,25 +32,7 @@ with_entry host actor command = record host {
   history = host.history ++ (record { actor = actor; command = command }) ∷ [];
 }
 
--- the commands that act takes
-abbrev pub IsTaken : Command → Type 0
-IsTaken (commands.Set cell content) = Unit {0}
-IsTaken (commands.Clear cell) = Unit {0}
-IsTaken (commands.Begin kind) = Unit {0}
-IsTaken (commands.Print form) = Unit {0}
-IsTaken commands.Settle = ⊥
-IsTaken (commands.Register name registration) = ⊥
-IsTaken (commands.Server name) = ⊥
-IsTaken (commands.Publish server strings value) = ⊥
-IsTaken (commands.Notify name) = ⊥
-IsTaken (commands.Throttle interval) = ⊥
-IsTaken (commands.Pull moment) = ⊥
-IsTaken commands.Cancel = ⊥
-IsTaken (commands.Return handle value) = ⊥
-IsTaken (commands.Listen name) = ⊥
-IsTaken (commands.Events name) = ⊥
-
--- the commands that a plain desk takes: these and Settle
+-- the commands that a plain desk takes
 abbrev pub IsDeskCommand : Command → Type 0
 IsDeskCommand (commands.Set cell content) = Unit {0}
 IsDeskCommand (commands.Clear cell) = Unit {0}
@@ -67,6 +49,11 @@ IsDeskCommand commands.Cancel = ⊥
 IsDeskCommand (commands.Return handle value) = ⊥
 IsDeskCommand (commands.Listen name) = ⊥
 IsDeskCommand (commands.Events name) = ⊥
+
+-- the commands that act takes: these but Settle
+abbrev pub IsTaken : Command → Type 0
+IsTaken commands.Settle = ⊥
+IsTaken command = IsDeskCommand command
 
 -- why a command isn't answered: exactly where the history is full, that; else want of memory. It is given back.
 abbrev pub IsActFault : HostState → Command → ActFault → Type 0

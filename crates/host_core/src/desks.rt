@@ -58,6 +58,13 @@ impl<F: AddIns + Drop> PlainDesk<F> {
         self.host.history()
     }
 
+    /// The host.
+    pub fn host(&self) -> &Host<F>
+        ensures { result.now ≡ self.now }
+    {
+        &self.host
+    }
+
     /// The host, as the desk leaves it.
     pub fn into_host(self) -> Host<F>
         ensures { result ≡ self }

@@ -3,6 +3,7 @@
 
 mod desks;
 mod hosts;
+mod round_books;
 
 pub use cell_values::Memory;
 pub use desks::PlainDesk;
