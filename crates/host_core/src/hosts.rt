@@ -27,10 +27,10 @@ pub struct Host<F: AddIns + Drop> {
 }
 
 impl<F: AddIns + Drop> Model for Host<F> {
-    ghost use Rattle.std.specs.Prelude.{◌<◌, ◌≤◌, [], length, vec_capacity};
+    ghost use Rattle.std.specs.Prelude.{◌<◌, ◌≤◌, length, vec_capacity};
     ghost use Rattle.formula_parse.specs.contracts.nodes.Node as e;
-    ghost use Rattle.host_core.specs.HostState.{HostState, terms_of};
-    ghost use Rattle.host_core.specs.HostParts.{Stands};
+    ghost use Rattle.host_core.specs.HostState.{HostState};
+    ghost use Rattle.host_core.specs.HostParts.{Stands, terms_with};
     ghost use Rattle.std.specs.Coded.{codes};
     ghost use Rattle.workbook.specs.History.{state_of};
 
@@ -44,8 +44,8 @@ impl<F: AddIns + Drop> Model for Host<F> {
     ghost invariant = { λ h. (0 < h.session) × (length h.history.items ≤ h.limit)
         × (h.limit ≤ vec_capacity h.history)
         × (h.book.round ≤ length h.history.items)
-        × Stands F.answer h.book (state_of (terms_of F.answer
-            (record { session = h.session; limit = h.limit; history = [] })) h.history.items) };
+        × Stands F.answer h.book
+        (state_of (terms_with F.answer h.session h.limit) h.history.items) };
 }
 
 impl<F: AddIns + Drop> Host<F> {

@@ -1,4 +1,4 @@
-ghost use Rattle.std.specs.Prelude.{◌≡◌, ◌+◌, ◌≤◌, ◌<◌, ◌^◌, [], true, false, IfOk, OnErr};
+ghost use Rattle.std.specs.Prelude.{◌≡◌, ◌+◌, ◌≤◌, ◌<◌, ◌^◌, [], true, false, IfOk, OnOk, OnErr};
 ghost use Rattle.calc_book.specs.CalcState.{CalcState};
 ghost use Rattle.calc_book.specs.Keeping.{Answers, Holds, Rests, Runs};
 ghost use Rattle.host_core.specs.HostParts.{IsStep, KeepsStates, Stands};
@@ -48,7 +48,8 @@ impl RoundBook {
         requires stands { (s : State) × Stands F.answer self.old s }
         ensures step { IfOk result (IsStep F.answer self.old self.new command) }
         ensures refused { OnErr result (KeepsStates F.answer self.old self.new) }
-        ensures round { self.new.round ≤ self.old.round + 1 }
+        ensures round { OnOk result (self.new.round ≤ self.old.round + 1) }
+        ensures same_round { OnErr result (self.new.round ≡ self.old.round) }
     {
         match command {
             Command::Set { cell, content } => self.set(cell, content),
@@ -101,7 +102,8 @@ impl RoundBook {
         ensures step { (answer : Answers)
             → IfOk result (IsStep answer self.old self.new (commands.Begin kind)) }
         ensures refused { (answer : Answers) → OnErr result (KeepsStates answer self.old self.new) }
-        ensures round { self.new.round ≤ self.old.round + 1 }
+        ensures round { OnOk result (self.new.round ≤ self.old.round + 1) }
+        ensures same_round { OnErr result (self.new.round ≡ self.old.round) }
     {
         if self.running {
             return Ok(Reply::Busy(self.round));

@@ -8,10 +8,10 @@ pub returns-in-Ok : goal.returns-in-Ok
 returns-in-Ok c = record {
   step = λ answer.
       let old = c.args.self.now in
-      step_of_parts answer old old old.running old.running (commands.Print c.args.form) (replies.Sheet c.args.form c.in-Ok.cells.items) refl refl
+      step_of_parts answer old old old.running old.running (commands.Print c.args.form) (replies.Sheet c.args.form c.from_vec.result) refl refl
       (λ session limit calc kept. record {
         next = calc;
-        said = ap (replies.Sheet c.args.form) (c.in-Ok.ensures answer calc (holds_anyhow answer old calc old.running kept));
+        said = ap (replies.Sheet c.args.form) (c.from_vec.ensures ∙ c.in-Ok.ensures answer calc (holds_anyhow answer old calc old.running kept));
         same = refl;
         kept = kept;
       });
