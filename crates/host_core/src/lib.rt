@@ -4,6 +4,8 @@
 mod desks;
 mod hosts;
 mod round_books;
+#[cfg(test)]
+mod tests;
 
 pub use cell_values::Memory;
 pub use desks::PlainDesk;

@@ -9,13 +9,13 @@ pub returns-in-Ok-clause-step : goal.returns-in-Ok-clause-step
 returns-in-Ok-clause-step c answer =
     let old = c.args.self.now in
     step_of_parts answer old (record { calc = c.begin.new.self; round = old.round + 1; running = true }) false true
-        (commands.Begin c.args.kind) (replies.Begun (old.round + 1)) c.if-self.false refl
-        (λ session limit calc kept. record {
-          next = calc_begin calc c.args.kind;
-          said = refl;
-          same = refl;
-          kept = c.in-Ok.ensures.ok answer calc kept;
-        })
+    (commands.Begin c.args.kind) (replies.Begun (old.round + 1)) c.if-self.false refl
+    (λ session limit calc kept. record {
+      next = calc_begin calc c.args.kind;
+      said = refl;
+      same = refl;
+      kept = c.in-Ok.ensures.ok answer calc kept;
+    })
 
 pub returns-in-Err-clause-refused : goal.returns-in-Err-clause-refused
 returns-in-Err-clause-refused c answer =

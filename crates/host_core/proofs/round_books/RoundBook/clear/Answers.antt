@@ -9,13 +9,13 @@ pub returns-in-Ok-clause-step : goal.returns-in-Ok-clause-step
 returns-in-Ok-clause-step c answer =
     let old = c.args.self.now in
     step_of_parts answer old (record old { calc = c.clear.new.self }) false false
-        (commands.Clear c.args.cell) replies.Ok c.if-self.false c.if-self.false
-        (λ session limit calc kept. record {
-          next = calc_clear calc c.args.cell;
-          said = refl;
-          same = refl;
-          kept = c.in-Ok.ensures.ok answer calc kept;
-        })
+    (commands.Clear c.args.cell) replies.Ok c.if-self.false c.if-self.false
+    (λ session limit calc kept. record {
+      next = calc_clear calc c.args.cell;
+      said = refl;
+      same = refl;
+      kept = c.in-Ok.ensures.ok answer calc kept;
+    })
 
 pub returns-in-Err-clause-refused : goal.returns-in-Err-clause-refused
 returns-in-Err-clause-refused c answer =
