@@ -1,0 +1,4 @@
+-- What the product means.
+pub mod HostState
+-- What the crate's own functions keep.
+pub mod HostParts
