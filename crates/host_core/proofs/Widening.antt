@@ -149,29 +149,12 @@ module _ (t : HostTerms) (calc : CalcState) (round : ℕ) (cell : Cell) (content
       → state_after t [] resting (commands.Set cell content) ≡ resting
   formulas_after back refusal = ap (effect_of t [] resting (commands.Set cell content)) (formulas_reply back refusal)
 
--- ---- the other commands
-pub clear_reply : (t : HostTerms) (calc : CalcState) (round : ℕ) (cell : Cell) → reply_to t [] (wide calc round false) (commands.Clear cell) ≡ replies.Ok
-clear_reply t calc round cell = refl
-
-pub clear_after : (t : HostTerms) (calc : CalcState) (round : ℕ) (cell : Cell)
-    → state_after t [] (wide calc round false) (commands.Clear cell) ≡ wide (calc_clear calc cell) round false
-clear_after t calc round cell = refl
-
-pub begin_after : (t : HostTerms) (calc : CalcState) (round : ℕ) (kind : BeginKind)
-    → state_after t [] (wide calc round false) (commands.Begin kind) ≡ wide (calc_begin calc kind) (round + 1) true
-begin_after t calc round kind = refl
-
--- what is shown, whether a recalculation runs or not
-pub sheet_shown : (t : HostTerms) (calc : CalcState) (round : ℕ) (runs : Bool)
-    → shown_sheet t (wide calc round runs) ≡ sheet_of (quiet_setting t.answer) calc.completed
-sheet_shown t calc round runs = refl
-
+-- ---- steps
 -- what is kept at all times
 pub holds_anyhow : (answer : Answers) (b : RoundBook) (calc : CalcState) (running : Bool) → Keeps answer running b.calc calc → Holds answer b.calc calc
 holds_anyhow answer b calc true kept = kept.holds
 holds_anyhow answer b calc false kept = kept.holds
 
--- ---- steps
 -- what follows a part of which a recalculation runs or not, at a command
 pub record Next (answer : Answers) (old new : RoundBook) (before after : Bool) (command : Command) (reply : Reply) (t : HostTerms) (calc : CalcState) : Type 0 where
   pub next : CalcState
