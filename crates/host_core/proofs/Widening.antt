@@ -1,29 +1,26 @@
 -- A book with the number of its recalculation answers as the host for whose state it stands.
-use Rattle.std.proofs.Common.{◌≡◌, ℕ, ◌+◌, Bool, true, false, cond, List, [], ◌∷◌, ◌++◌, map, Option, None, Some, refl, ap, sym, subst, ◌∙◌, ◌⊎◌, inl, inr}
+use Rattle.std.proofs.Common.{◌≡◌, ℕ, Bool, true, false, cond, List, [], ◌∷◌, ◌++◌, map, Option, None, Some, refl, ap, sym, subst, ◌∙◌, ◌⊎◌, inl, inr}
 use Rattle.std.specs.List.{filter, filter_map, list_any}
 use Rattle.cell_refs.specs.declared.grid.Cell.{Cell}
 use Rattle.cell_values.specs.declared.topics.Topic.{Topic}
 use Rattle.cell_values.specs.declared.values.Value.{Value}
-use Rattle.calc_book.specs.CalcState.{CalcState, calc_begin, calc_clear, calc_set, calc_settle}
-use Rattle.calc_book.specs.Keeping.{Answers, AtRest, Holds, InRound}
-use Rattle.calc_round.specs.Rounds.{quiet_setting}
+use Rattle.calc_book.specs.CalcState.{CalcState, calc_set, calc_settle}
+use Rattle.calc_book.specs.Keeping.{Answers, Holds}
 use Rattle.workbook.specs.declared.books.SetFault.{SetFault}
 use Rattle.workbook.specs.declared.books.SetFault.TheVariants as faults
-use Rattle.workbook.specs.declared.commands.BeginKind.{BeginKind}
 use Rattle.workbook.specs.declared.commands.Command.{Command}
 use Rattle.workbook.specs.declared.commands.Command.TheVariants as commands
-use Rattle.workbook.specs.declared.commands.Form.{Form}
 use Rattle.workbook.specs.declared.contents.Content.{Content}
 use Rattle.workbook.specs.declared.history.Entry.{Entry}
 use Rattle.workbook.specs.declared.replies.Reply.{Reply}
 use Rattle.workbook.specs.declared.replies.Reply.TheVariants as replies
 use Rattle.workbook.specs.Book.{IsRefusal, exceeds_cells, exceeds_formulas, formula_cells, limit_fault}
 use Rattle.workbook.specs.History.{commands_of, state_after_all, state_of}
-use Rattle.workbook.specs.Meaning.{Meaning, Val, Circ, sheet_of}
+use Rattle.workbook.specs.Meaning.{Meaning, Val, Circ}
 use Rattle.workbook.specs.Reads.{topics_of_cell}
 use Rattle.workbook.specs.Stale.{stale_cells, stale_count}
-use Rattle.workbook.specs.State.{HostTerms, State, call_at, call_of_meaning, first_state, open_calls, setting_of, shown_sheet}
-use Rattle.workbook.specs.Step.{after_done, after_set, effect_of, is_ok_reply, readers_of_failed, reply_to_settle, reply_to, state_after, taken_at_end, topics_in_use}
+use Rattle.workbook.specs.State.{HostTerms, State, call_at, call_of_meaning, first_state, open_calls, setting_of}
+use Rattle.workbook.specs.Step.{after_done, effect_of, readers_of_failed, reply_to_settle, reply_to, state_after, taken_at_end, topics_in_use}
 use Rattle.workbook.proofs.PublicLaws.{circular_or_valued}
 use Rattle.host_core.specs.declared.round_books.RoundBook.{RoundBook}
 use Rattle.host_core.specs.HostParts.{IsStep, Keeps, KeepsStates, Stands, terms_with, wide}
