@@ -1,29 +1,26 @@
 -- A book with the number of its recalculation answers as the host for whose state it stands.
-use Rattle.std.proofs.Common.{◌≡◌, ℕ, ◌+◌, Bool, true, false, cond, List, [], ◌∷◌, ◌++◌, map, Option, None, Some, refl, ap, sym, subst, ◌∙◌, ◌⊎◌, inl, inr}
+use Rattle.std.proofs.Common.{◌≡◌, ℕ, Bool, true, false, cond, List, [], ◌∷◌, ◌++◌, map, Option, None, Some, refl, ap, sym, subst, ◌∙◌, ◌⊎◌, inl, inr}
 use Rattle.std.specs.List.{filter, filter_map, list_any}
 use Rattle.cell_refs.specs.declared.grid.Cell.{Cell}
 use Rattle.cell_values.specs.declared.topics.Topic.{Topic}
 use Rattle.cell_values.specs.declared.values.Value.{Value}
-use Rattle.calc_book.specs.CalcState.{CalcState, calc_begin, calc_clear, calc_set, calc_settle}
-use Rattle.calc_book.specs.Keeping.{Answers, AtRest, Holds, InRound}
-use Rattle.calc_round.specs.Rounds.{quiet_setting}
+use Rattle.calc_book.specs.CalcState.{CalcState, calc_set, calc_settle}
+use Rattle.calc_book.specs.Keeping.{Answers, Holds}
 use Rattle.workbook.specs.declared.books.SetFault.{SetFault}
 use Rattle.workbook.specs.declared.books.SetFault.TheVariants as faults
-use Rattle.workbook.specs.declared.commands.BeginKind.{BeginKind}
 use Rattle.workbook.specs.declared.commands.Command.{Command}
 use Rattle.workbook.specs.declared.commands.Command.TheVariants as commands
-use Rattle.workbook.specs.declared.commands.Form.{Form}
 use Rattle.workbook.specs.declared.contents.Content.{Content}
 use Rattle.workbook.specs.declared.history.Entry.{Entry}
 use Rattle.workbook.specs.declared.replies.Reply.{Reply}
 use Rattle.workbook.specs.declared.replies.Reply.TheVariants as replies
 use Rattle.workbook.specs.Book.{IsRefusal, exceeds_cells, exceeds_formulas, formula_cells, limit_fault}
 use Rattle.workbook.specs.History.{commands_of, state_after_all, state_of}
-use Rattle.workbook.specs.Meaning.{Meaning, Val, Circ, sheet_of}
+use Rattle.workbook.specs.Meaning.{Meaning, Val, Circ}
 use Rattle.workbook.specs.Reads.{topics_of_cell}
 use Rattle.workbook.specs.Stale.{stale_cells, stale_count}
-use Rattle.workbook.specs.State.{HostTerms, State, call_at, call_of_meaning, first_state, open_calls, setting_of, shown_sheet}
-use Rattle.workbook.specs.Step.{after_done, after_set, effect_of, is_ok_reply, readers_of_failed, reply_to_settle, reply_to, state_after, taken_at_end, topics_in_use}
+use Rattle.workbook.specs.State.{HostTerms, State, call_at, call_of_meaning, first_state, open_calls, setting_of}
+use Rattle.workbook.specs.Step.{after_done, effect_of, readers_of_failed, reply_to_settle, reply_to, state_after, taken_at_end, topics_in_use}
 use Rattle.workbook.proofs.PublicLaws.{circular_or_valued}
 use Rattle.host_core.specs.declared.round_books.RoundBook.{RoundBook}
 use Rattle.host_core.specs.HostParts.{IsStep, Keeps, KeepsStates, Stands, terms_with, wide}
@@ -149,29 +146,12 @@ module _ (t : HostTerms) (calc : CalcState) (round : ℕ) (cell : Cell) (content
       → state_after t [] resting (commands.Set cell content) ≡ resting
   formulas_after back refusal = ap (effect_of t [] resting (commands.Set cell content)) (formulas_reply back refusal)
 
--- ---- the other commands
-pub clear_reply : (t : HostTerms) (calc : CalcState) (round : ℕ) (cell : Cell) → reply_to t [] (wide calc round false) (commands.Clear cell) ≡ replies.Ok
-clear_reply t calc round cell = refl
-
-pub clear_after : (t : HostTerms) (calc : CalcState) (round : ℕ) (cell : Cell)
-    → state_after t [] (wide calc round false) (commands.Clear cell) ≡ wide (calc_clear calc cell) round false
-clear_after t calc round cell = refl
-
-pub begin_after : (t : HostTerms) (calc : CalcState) (round : ℕ) (kind : BeginKind)
-    → state_after t [] (wide calc round false) (commands.Begin kind) ≡ wide (calc_begin calc kind) (round + 1) true
-begin_after t calc round kind = refl
-
--- what is shown, whether a recalculation runs or not
-pub sheet_shown : (t : HostTerms) (calc : CalcState) (round : ℕ) (runs : Bool)
-    → shown_sheet t (wide calc round runs) ≡ sheet_of (quiet_setting t.answer) calc.completed
-sheet_shown t calc round runs = refl
-
+-- ---- steps
 -- what is kept at all times
 pub holds_anyhow : (answer : Answers) (b : RoundBook) (calc : CalcState) (running : Bool) → Keeps answer running b.calc calc → Holds answer b.calc calc
 holds_anyhow answer b calc true kept = kept.holds
 holds_anyhow answer b calc false kept = kept.holds
 
--- ---- steps
 -- what follows a part of which a recalculation runs or not, at a command
 pub record Next (answer : Answers) (old new : RoundBook) (before after : Bool) (command : Command) (reply : Reply) (t : HostTerms) (calc : CalcState) : Type 0 where
   pub next : CalcState

@@ -109,6 +109,23 @@ fn is_reply(reply: &Reply, wanted: Says<'_>) -> bool {
     }
 }
 
+/// Whether a command is answered so.
+fn is_answer(answer: &Result<Reply, ActFault>, wanted: Says<'_>) -> bool {
+    match answer {
+        Ok(reply) => is_reply(reply, wanted),
+        Err(ActFault::Full(_)) => matches!(wanted, Says::Full),
+        Err(ActFault::Memory(_)) => false,
+    }
+}
+
+/// Whether memory was wanting.
+fn lacks_memory(answer: &Result<Reply, ActFault>) -> bool {
+    match answer {
+        Err(ActFault::Memory(_)) => true,
+        Ok(_) | Err(ActFault::Full(_)) => false,
+    }
+}
+
 /// A desk at a new host.
 fn new_desk(alloc: Global, limit: usize) -> Result<PlainDesk<SampleAddIns>, Fail>
     requires { 0 < limit }
@@ -127,11 +144,11 @@ fn step(
     place: usize,
 ) -> Result<(), Fail> {
     let command = command_of(alloc, what)?;
-    match desk.act(command) {
-        Ok(reply) => assert!(rt; is_reply(&reply, wanted), "step {place}"),
-        Err(ActFault::Full(_command)) => assert!(rt; matches!(wanted, Says::Full), "step {place}"),
-        Err(ActFault::Memory(_command)) => return Err(Fail::from("memory is wanting")),
+    let answer = desk.act(command);
+    if lacks_memory(&answer) {
+        return Err(Fail::from("memory is wanting"));
     }
+    assert!(rt; is_answer(&answer, wanted), "step {place}");
     Ok(())
 }
 

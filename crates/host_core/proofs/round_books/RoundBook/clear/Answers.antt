@@ -1,4 +1,4 @@
-use Rattle.std.proofs.Common.{true, false, refl, ◌+◌}
+use Rattle.std.proofs.Common.{false, refl}
 use Rattle.calc_book.specs.CalcState.{calc_clear}
 use Rattle.workbook.specs.declared.commands.Command.TheVariants as commands
 use Rattle.workbook.specs.declared.replies.Reply.TheVariants as replies

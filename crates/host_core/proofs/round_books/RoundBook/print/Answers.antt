@@ -1,4 +1,4 @@
-use Rattle.std.proofs.Common.{refl, ap, ◌∙◌, sym}
+use Rattle.std.proofs.Common.{refl, ap, ◌∙◌}
 use Rattle.workbook.specs.declared.commands.Command.TheVariants as commands
 use Rattle.workbook.specs.declared.replies.Reply.TheVariants as replies
 use Rattle.host_core.proofs.Widening.{holds_anyhow, step_of_parts}

@@ -1,6 +1,5 @@
-use Rattle.std.proofs.Common.{◌≡◌, None, true, false, refl, ap, sym, subst, ◌∙◌}
-use Rattle.calc_book.specs.CalcState.{CalcState, calc_set}
-use Rattle.calc_book.specs.Keeping.{AtRest}
+use Rattle.std.proofs.Common.{◌≡◌, None, false, refl, sym, subst}
+use Rattle.calc_book.specs.CalcState.{calc_set}
 use Rattle.workbook.specs.declared.books.SetFault.TheVariants as faults
 use Rattle.workbook.specs.declared.commands.Command.TheVariants as commands
 use Rattle.workbook.specs.declared.replies.Reply.TheVariants as replies

@@ -3,7 +3,7 @@ use Rattle.calc_book.specs.CalcState.{calc_settle}
 use Rattle.workbook.specs.declared.commands.Command.TheVariants as commands
 use Rattle.workbook.specs.declared.replies.Reply.TheVariants as replies
 use Rattle.host_core.specs.HostParts.{terms_with}
-use Rattle.host_core.proofs.Widening.{settle_after, settle_reply, states_of_parts, step_of_parts}
+use Rattle.host_core.proofs.Widening.{settle_after, settle_reply, step_of_parts}
 use Rattle.host_core.proofs.round_books.RoundBook.settle.Goals as goal
 
 pub returns-in-Ok-clause-step : goal.returns-in-Ok-clause-step
