@@ -1,1 +1,5 @@
 -- Lemmas of this crate.
+mod BeginningLists
+mod BeginningMeans
+mod BeginningLoops
+mod BeginningStates

@@ -1,28 +1,22 @@
 -- What a recalculating book keeps of the state that it stands for, at rest and in a recalculation.
-use Rattle.std.specs.Prelude.{◌≡◌, ◌⊎◌, ℕ, false, Option, List, []}
+use Rattle.std.specs.Prelude.{◌≡◌, ℕ, false, Option, List, []}
 use Rattle.std.specs.Option.{option_map}
-use Rattle.book_sync.specs.Following.{TableFollows}
+use Rattle.book_sync.specs.Following.{ShowsWhereClean, TableFollows}
 use Rattle.calc_book.specs.CalcState.{CalcState}
 use Rattle.calc_book.specs.declared.calc_books.CalcBook.{CalcBook}
 use Rattle.calc_round.specs.Rounds.{IsWorking, quiet_setting}
 use Rattle.cell_refs.specs.declared.grid.Cell.{Cell}
 use Rattle.cell_refs.specs.Cell.{is_among}
-use Rattle.cell_refs.specs.Reaching.{Reaches}
-use Rattle.cell_store.specs.Store.{StoreState, present_at, shown_at}
+use Rattle.cell_store.specs.Store.{shown_at}
 use Rattle.cell_values.specs.declared.values.Value.{Value}
 use Rattle.workbook.specs.declared.contents.Content.{Content}
-use Rattle.workbook.specs.Book.{IsInOrder, cell_precedents, content_at, is_formula}
+use Rattle.workbook.specs.Book.{IsInOrder, content_at, is_formula}
 use Rattle.workbook.specs.Meaning.{Setting, meaning, shown_value}
 use Rattle.workbook.specs.Stale.{is_stale}
 
 -- what add-in functions answer
 abbrev pub Answers : Type 0
 Answers = List ℕ → List Value → Value
-
--- each cell has present what the sheet shows of it, or a changed cell is reached from it along the cells that formulas name
-abbrev pub ShowsWhereClean : List (Cell × Content) → List Cell → StoreState → Type 0
-ShowsWhereClean book changed store = (cell : Cell) → (present_at store cell ≡ shown_at store cell)
-    ⊎ Reaches (cell_precedents book) changed cell
 
 -- what the sheet shows of a cell of a book: nothing where it has no content
 abbrev pub shown_in : Setting → List (Cell × Content) → Cell → Option (Option Value)

@@ -2,3 +2,4 @@
 pub mod CalcState
 -- What the crate's own functions keep.
 pub mod Keeping
+pub mod Begun
