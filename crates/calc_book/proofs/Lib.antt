@@ -1,4 +1,7 @@
--- Lemmas of this crate.
+-- Laws of a book that recalculates.
+mod EditLaws
+mod SheetLaws
+mod SettleLaws
 mod BeginningLists
 mod BeginningMeans
 mod BeginningLoops

@@ -2,4 +2,5 @@
 pub mod CalcState
 -- What the crate's own functions keep.
 pub mod Keeping
+pub mod Edits
 pub mod Begun

@@ -7,7 +7,10 @@ ghost use Rattle.workbook.specs.Meaning.{sheet_of};
 ghost use Rattle.workbook.specs.Stale.{stale_count};
 
 use super::beginning::{catch_up, make_all_due, make_due};
+use super::edits::{clear_content, set_content};
+use super::settling::evaluate;
 use addin_types::AddIns;
+use book_sync::what_follows_a_book_still_does_after_an_edit;
 use cell_chain::CellChain;
 use cell_refs::Cell;
 use cell_store::CellStore;
@@ -16,6 +19,8 @@ use dep_table::DepTable;
 use stale_marks::Marks;
 use std::alloc::Global;
 use std::collections::BTreeSet;
+use std::marker::Brand;
+use std::sync::ledger::Blank;
 use workbook::{BeginKind, Book, CELL_LIMIT, Content, FORMULA_LIMIT, SetFault};
 
 /// A book with what a recalculation needs beside it: the cells that were changed since the last completed one, the
@@ -72,7 +77,15 @@ impl CalcBook {
         if self.exceeds_formulas(cell, &content) {
             return Err(SetFault::FormulaLimit(content));
         }
-        Err(SetFault::Memory(content))
+        // The table and the store stay as they are, and so does what they have off the changed cells.
+        what_follows_a_book_still_does_after_an_edit();
+        set_content(
+            &mut self.book,
+            &mut self.changed,
+            &mut self.chain,
+            cell,
+            content,
+        )
     }
 
     /// Takes the content of a cell away, where it has one. A refusal changes nothing.
@@ -82,7 +95,9 @@ impl CalcBook {
         ensures refused { (answer : Answers) (s : CalcState) → AtRest answer self.old s
             → OnErr result (AtRest answer self.new s) }
     {
-        Err(Memory)
+        // As for a content that is given.
+        what_follows_a_book_still_does_after_an_edit();
+        clear_content(&mut self.book, &mut self.changed, &mut self.chain, cell)
     }
 
     /// Begins a recalculation. A refusal changes nothing that shows.
@@ -124,7 +139,21 @@ impl CalcBook {
         ensures refused { (s : CalcState) → InRound F.answer self.old s
             → OnErr result (InRound F.answer self.new s) }
     {
-        Err(Memory)
+        evaluate::<F, Brand>(
+            self.alloc,
+            Blank::new(1),
+            round,
+            &self.book,
+            addins,
+            &mut self.chain,
+            &mut self.store,
+        )?;
+        // From here on nothing takes memory.
+        let count = self.marks.count();
+        self.store.complete();
+        self.marks.clear();
+        self.changed.clear();
+        Ok(count as u64)
     }
 
     /// What the sheet shows: the cells with content at the last completed recalculation, in cell order.
@@ -132,7 +161,7 @@ impl CalcBook {
         ensures { (answer : Answers) (s : CalcState) → Holds answer self.now s
             → IfOk result (λ sheet. sheet.items ≡ sheet_of (quiet_setting answer) s.completed) }
     {
-        Err(Memory)
+        self.store.sheet(self.alloc)
     }
 
     /// The formula cells, in the order of the chain.

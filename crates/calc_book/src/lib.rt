@@ -4,6 +4,8 @@
 
 mod beginning;
 mod calc_books;
+mod edits;
+mod settling;
 
 pub use calc_books::CalcBook;
 pub use cell_values::Memory;

@@ -1,14 +1,14 @@
 -- The job of a cell comes to the cell's meaning.
-use Rattle.std.proofs.Common.{◌≡◌, ℕ, Bool, true, false, cond, ◌||◌, ◌⊎◌, inl, inr, Option, None, Some, is_some, unwrap_or, List, [], ◌∷◌, MatchOption, refl, ap, sym, subst, ◌∙◌}
+use Rattle.std.proofs.Common.{◌≡◌, ℕ, Bool, true, false, cond, ◌||◌, inl, inr, Option, None, Some, is_some, unwrap_or, List, [], ◌∷◌, refl, ap, sym, ◌∙◌}
 use Rattle.std.specs.List.{AllByRecursion, flat_map, list_any}
 use Rattle.std.specs.Option.{option_map}
-use Rattle.std.proofs.lemmas.Bool.{or_left, or_right, true≢false}
+use Rattle.std.proofs.lemmas.Bool.{or_left, or_right}
 use Rattle.addin_types.specs.declared.registrations.Registration.{Registration}
 use Rattle.cell_eval.specs.declared.jobs.Job.{Job}
 use Rattle.cell_eval.specs.Jobs.{closed_world, input_of, result_at, topic_value, world_of}
 use Rattle.cell_refs.specs.declared.areas.Area.{Area}
 use Rattle.cell_refs.specs.declared.grid.Cell.{Cell}
-use Rattle.cell_refs.specs.Area.{cells_of, lies_in}
+use Rattle.cell_refs.specs.Area.{cells_of}
 use Rattle.cell_refs.specs.Cell.{is_among, same_cell}
 use Rattle.cell_refs.proofs.PublicLaws.{lies_in-among, same_cells, some_among}
 use Rattle.cell_store.specs.Gathering.{AreGathered, HasUnknown, has_no_value}
@@ -25,7 +25,7 @@ use Rattle.workbook.specs.Book.{IsInOrder, cell_precedents, content_at, content_
 use Rattle.workbook.specs.Circular.{is_circular, walks_on}
 use Rattle.workbook.specs.Evaluation as answers
 use Rattle.workbook.specs.Evaluation.{Answer, World, answer_of}
-use Rattle.workbook.specs.Meaning.{Asks, Circ, Meaning, Open, Val, content_meaning, is_open, meaning, meaning_of_answer, value_in, world_at}
+use Rattle.workbook.specs.Meaning.{Circ, Meaning, Open, Val, content_meaning, is_open, meaning, meaning_of_answer, value_in, world_at}
 use Rattle.workbook.specs.Registry.{registration_of}
 use Rattle.workbook.proofs.PublicLaws.{circular-names, circular_or_valued, each_leads, evaluated_alike, meaning-unfolds, shows_circle, walks-formula}
 use Rattle.calc_round.specs.Looks.{IsJobOf, answer_value}

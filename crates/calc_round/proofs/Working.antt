@@ -1,6 +1,5 @@
 -- The bookkeeping of a recalculation: from one look to the next, and what is left where nothing moves.
-use Rattle.std.proofs.Common.{◌≡◌, ℕ, zero, suc, ◌≤◌, Bool, true, false, not, cond, ◌||◌, ◌&&◌, inl, inr, Option, None, Some, is_some, List, [], ◌∷◌, ◌++◌, length, append-nil, refl, ap, sym, subst, ◌∙◌}
-use Rattle.std.specs.List.{list_any}
+use Rattle.std.proofs.Common.{◌≡◌, ℕ, zero, suc, ◌≤◌, Bool, true, false, not, cond, ◌||◌, ◌&&◌, inl, inr, Some, is_some, List, [], ◌∷◌, ◌++◌, length, append-nil, refl, ap, sym, subst, ◌∙◌}
 use Rattle.std.proofs.lemmas.Bool.{or_cases, or_left, or_right, and_parts, and_from, true≢false}
 use Rattle.std.proofs.lemmas.Map.Made.{length-le_from_is_member}
 use Rattle.cell_chain.specs.CellOrder.{CellOrder, behind_first, entries_among, first_of}
@@ -11,12 +10,12 @@ use Rattle.cell_refs.proofs.PublicLaws.{same_cell_is, same_cells}
 use Rattle.cell_store.specs.Store.{KeepsTouched, PutsPresent, StoreState, is_touched, present_at}
 use Rattle.cell_values.specs.declared.values.Value.{Value}
 use Rattle.workbook.specs.declared.contents.Content.{Content}
-use Rattle.workbook.specs.Book.{IsInOrder, cell_precedents, content_at, formula_cells, formula_count, is_formula}
+use Rattle.workbook.specs.Book.{IsInOrder, cell_precedents, content_at, formula_cells, formula_count}
 use Rattle.workbook.specs.Circular.{is_circular, walks_on}
 use Rattle.workbook.specs.Meaning.{Setting, Val, meaning}
 use Rattle.workbook.proofs.PublicLaws.{any_leads, circular-names, formula_cells-count, formula_cells-has, walks-formula}
 use Rattle.calc_round.specs.Looks.{Finishes, IsReordered}
-use Rattle.calc_round.specs.Rounds.{IsWorkedOut, IsWorking, PresentMeans, is_unfinished, names_unfinished}
+use Rattle.calc_round.specs.Rounds.{IsWorkedOut, IsWorking, is_unfinished, names_unfinished}
 use Rattle.calc_round.proofs.Chains.{among-out, distinct-filter, distinct-none, distinct-out, reordered-none, taken}
 use Rattle.calc_round.proofs.Finishing.{unfinished-after, unfinished-present}
 

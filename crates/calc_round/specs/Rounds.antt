@@ -1,5 +1,5 @@
 -- A recalculation: what is present means, which cells are left, and what stays as it was.
-use Rattle.std.specs.Prelude.{◌≡◌, ℕ, Bool, true, ◌||◌, ◌&&◌, Option, None, Some, is_some, List}
+use Rattle.std.specs.Prelude.{◌≡◌, ℕ, Bool, true, ◌||◌, ◌&&◌, None, Some, is_some, List}
 use Rattle.std.specs.List.{IsDistinct, list_any}
 use Rattle.cell_refs.specs.declared.grid.Cell.{Cell}
 use Rattle.cell_refs.specs.Cell.{is_among, same_cell}

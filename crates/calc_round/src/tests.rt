@@ -68,7 +68,7 @@ fn first_value(content: &Content) -> Result<Option<Value>, Memory>
 
 /// A sheet with nothing in it.
 fn empty_sheet(alloc: Global) -> Sheet
-    ensures start { IsUnevaluated result.book.contents result.store result.chain.entries }
+    ensures { IsUnevaluated result.book.contents result.store result.chain.entries }
 {
     let book = Book::new(alloc);
     let _ = book.cells();
@@ -96,7 +96,7 @@ fn enter_content(sheet: &mut Sheet, cell: Cell, content: Content) -> Result<(), 
     requires start { IsUnevaluated sheet.old.book.contents sheet.old.store
         sheet.old.chain.entries }
     requires new { content_at sheet.old.book.contents cell ≡ None }
-    ensures start { OnOk result (IsUnevaluated sheet.new.book.contents sheet.new.store
+    ensures { OnOk result (IsUnevaluated sheet.new.book.contents sheet.new.store
         sheet.new.chain.entries) }
 {
     append_formula(&mut sheet.chain, cell, &content)?;
@@ -110,9 +110,9 @@ fn enter_content(sheet: &mut Sheet, cell: Cell, content: Content) -> Result<(), 
 
 /// Gives a cell of the first column what the text says.
 fn enter(alloc: Global, sheet: &mut Sheet, row: u32, text: &str) -> Result<(), Fail>
-    requires start { IsUnevaluated sheet.old.book.contents sheet.old.store
+    requires { IsUnevaluated sheet.old.book.contents sheet.old.store
         sheet.old.chain.entries }
-    ensures start { OnOk result (IsUnevaluated sheet.new.book.contents sheet.new.store
+    ensures { OnOk result (IsUnevaluated sheet.new.book.contents sheet.new.store
         sheet.new.chain.entries) }
 {
     let content = content_of(alloc, text)?;
@@ -126,9 +126,9 @@ fn enter(alloc: Global, sheet: &mut Sheet, row: u32, text: &str) -> Result<(), F
 
 /// Makes all formula cells due.
 fn begin(alloc: Global, sheet: &mut Sheet) -> Result<(), Fail>
-    requires start { IsUnevaluated sheet.old.book.contents sheet.old.store
+    requires { IsUnevaluated sheet.old.book.contents sheet.old.store
         sheet.old.chain.entries }
-    ensures working { OnOk result (IsWorking (quiet_setting sample_answer) sheet.new.book.contents
+    ensures { OnOk result (IsWorking (quiet_setting sample_answer) sheet.new.book.contents
         sheet.new.store sheet.new.chain.entries sheet.new.chain.due) }
 {
     let cells = sheet.chain.list(alloc)?;
@@ -142,9 +142,9 @@ fn recalculate<L: Ledger>(
     sheet: &mut Sheet,
     steps: &mut Steps<L>,
 ) -> Result<(), Fail>
-    requires working { IsWorking (quiet_setting sample_answer) sheet.old.book.contents
+    requires { IsWorking (quiet_setting sample_answer) sheet.old.book.contents
         sheet.old.store sheet.old.chain.entries sheet.old.chain.due }
-    ensures working { OnOk result (IsWorking (quiet_setting sample_answer) sheet.new.book.contents
+    ensures { OnOk result (IsWorking (quiet_setting sample_answer) sheet.new.book.contents
         sheet.new.store sheet.new.chain.entries sheet.new.chain.due) }
 {
     let Sheet { book, chain, store } = sheet;

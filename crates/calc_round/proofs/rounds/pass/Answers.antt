@@ -1,5 +1,4 @@
-use Rattle.std.proofs.Common.{rules, ◌≡◌, ◌∷◌, ◌++◌, [], Ok, Some, true, false, length, ap, sym, subst, ◌∙◌, arith}
-use Rattle.cell_chain.specs.CellOrder.{first_of}
+use Rattle.std.proofs.Common.{rules, ◌≡◌, ◌∷◌, ◌++◌, [], Ok, true, false, length, ap, sym, subst, ◌∙◌, arith}
 use Rattle.cell_refs.specs.Cell.{is_among}
 use Rattle.calc_round.specs.Rounds.{IsWorking, quiet_setting}
 use Rattle.calc_round.proofs.Chains.{as_many}

@@ -1,6 +1,6 @@
-use Rattle.std.proofs.Common.{rules, ◌≡◌, ◌∷◌, ◌++◌, [], Ok, true, false, length, length-append, refl, ap, sym, subst, ◌∙◌, arith}
+use Rattle.std.proofs.Common.{rules, ◌≡◌, ◌++◌, [], Ok, true, false, length-append, refl, ap, ◌∙◌, arith}
 use Rattle.cell_refs.specs.Cell.{is_among}
-use Rattle.calc_round.specs.Rounds.{IsWorkedOut, quiet_setting}
+use Rattle.calc_round.specs.Rounds.{quiet_setting}
 use Rattle.calc_round.proofs.Chains.{few-due}
 use Rattle.calc_round.proofs.Finishing.{kept-none, kept-then}
 use Rattle.calc_round.proofs.Working.{due-again, few-pending, pass-ended, rest-again, working-ended}

@@ -1,4 +1,4 @@
-use Rattle.std.proofs.Common.{◌≡◌, None, Some, ap, sym, ◌∙◌}
+use Rattle.std.proofs.Common.{◌≡◌, ap, sym, ◌∙◌}
 use Rattle.workbook.specs.Meaning.{Val}
 use Rattle.calc_round.proofs.Jobs.{job-value}
 use Rattle.calc_round.proofs.looks.Looker.look.Goals as goal
