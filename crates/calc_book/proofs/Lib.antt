@@ -2,3 +2,7 @@
 mod EditLaws
 mod SheetLaws
 mod SettleLaws
+mod BeginningLists
+mod BeginningMeans
+mod BeginningLoops
+mod BeginningStates

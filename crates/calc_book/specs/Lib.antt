@@ -3,3 +3,4 @@ pub mod CalcState
 -- What the crate's own functions keep.
 pub mod Keeping
 pub mod Edits
+pub mod Begun

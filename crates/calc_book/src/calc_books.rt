@@ -6,6 +6,7 @@ ghost use Rattle.workbook.specs.Book.{IsRefusal, exceeds_cells, exceeds_formulas
 ghost use Rattle.workbook.specs.Meaning.{sheet_of};
 ghost use Rattle.workbook.specs.Stale.{stale_count};
 
+use super::beginning::{catch_up, make_all_due, make_due};
 use super::edits::{clear_content, set_content};
 use super::settling::evaluate;
 use addin_types::AddIns;
@@ -107,7 +108,26 @@ impl CalcBook {
         ensures refused { (answer : Answers) (s : CalcState) → AtRest answer self.old s
             → OnErr result (AtRest answer self.new s) }
     {
-        Err(Memory)
+        catch_up(
+            kind,
+            self.alloc,
+            &self.book,
+            &self.changed,
+            &mut self.table,
+            &mut self.marks,
+            &mut self.store,
+        )?;
+        match kind {
+            BeginKind::Dirty => make_due(self.alloc, &self.table, &self.marks, &mut self.chain),
+            BeginKind::All | BeginKind::Rebuild => make_all_due(
+                self.alloc,
+                &self.table,
+                &mut self.changed,
+                &mut self.marks,
+                &mut self.chain,
+                &mut self.store,
+            ),
+        }
     }
 
     /// Completes the recalculation, and answers how many cells were stale. After a refusal it can be called again.

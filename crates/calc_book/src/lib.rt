@@ -2,6 +2,7 @@
 //! it and evaluates what is stale.
 #![tactic(auto)]
 
+mod beginning;
 mod calc_books;
 mod edits;
 mod settling;

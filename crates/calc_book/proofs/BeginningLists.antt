@@ -1,0 +1,130 @@
+-- Lists of cells with the same cells, and what is reached and followed over them.
+use Rattle.std.proofs.Common.{◌≡◌, ℕ, zero, suc, Bool, true, false, cond, ◌||◌, ◌&&◌, List, [], ◌∷◌, ⊎_elim, inl, inr, refl, ap, sym, ◌∙◌}
+use Rattle.std.specs.List.{AllByRecursion, IsDistinct, filter, list_any}
+use Rattle.std.proofs.lemmas.Bool.{or_cases, or_left, or_right}
+use Rattle.std.proofs.lemmas.Map.Keys.{IsDistinct-head, IsDistinct-tail, IsDistinct-cons}
+use Rattle.book_sync.specs.Following.{ShowsWhereClean, TableFollows}
+use Rattle.calc_book.specs.CalcState.{CalcState}
+use Rattle.calc_book.specs.Keeping.{Answers, AtRest, InRound}
+use Rattle.calc_book.specs.declared.calc_books.CalcBook.{CalcBook}
+use Rattle.cell_refs.specs.declared.areas.Area.{Area}
+use Rattle.cell_refs.specs.declared.grid.Cell.{Cell}
+use Rattle.cell_refs.specs.Cell.{is_among, same_cell}
+use Rattle.cell_refs.specs.Reaching.{Reaches, reaches}
+use Rattle.cell_refs.proofs.PublicLaws.{same_cell_is}
+use Rattle.cell_store.specs.Store.{StoreState}
+use Rattle.workbook.specs.declared.contents.Content.{Content}
+use Rattle.workbook.specs.Book.{IsInOrder, cell_precedents, formula_count, is_formula}
+use Rattle.workbook.specs.Stale.{is_stale}
+use Rattle.workbook.proofs.PublicLaws.{any_alike, any_leads, reaches-among, reaches-constant, reaches-enough}
+
+-- lists with the same cells
+abbrev pub AreAlike : List Cell → List Cell → Type 0
+AreAlike cells same = (q : Cell) → is_among cells q ≡ is_among same q
+
+-- ---- what is reached
+pub reaches-alike : (names : Cell → List Cell) (targets same : List Cell) → AreAlike targets same → (n : ℕ) (q : Cell) → reaches names targets n q ≡ reaches names same n q
+reaches-alike names targets same alike zero q = alike q
+reaches-alike names targets same alike (suc n) q =
+    ap (λ b. b || list_any (reaches names targets n) (names q)) (alike q)
+    ∙ ap (λ b. is_among same q || b) (any_alike _ _ (reaches-alike names targets same alike n) (names q))
+
+-- what is reached in any number of steps is reached in as many as there are formula cells
+reaches-within : (book : List (Cell × Content)) → IsInOrder book → (changed : List Cell) (n : ℕ) (q : Cell)
+    → reaches (cell_precedents book) changed n q ≡ true → reaches (cell_precedents book) changed (formula_count book) q ≡ true
+reaches-within book ordered changed zero q h = reaches-among book ordered changed (formula_count book) q h
+reaches-within book ordered changed (suc n) q h =
+    sym (reaches-enough book ordered changed q)
+    ∙ ⊎_elim (λ here. or_left (is_among changed q) _ here)
+    (λ later. or_right (is_among changed q) _ (any_leads _ _ (reaches-within book ordered changed n) (cell_precedents book q) later))
+    (or_cases (is_among changed q) _ h)
+
+not_both : (b : Bool) → b ≡ true → b ≡ false → ⊥
+not_both b h k = let e : true ≡ false = sym h ∙ k in cc
+
+-- from a cell that is neither changed nor stale no changed cell is reached
+pub unreached : (book : List (Cell × Content)) → IsInOrder book → (changed : List Cell) (q : Cell) → is_among changed q ≡ false → is_stale book changed q ≡ false
+    → Reaches (cell_precedents book) changed q → ⊥
+unreached book ordered changed q unchanged fresh r = elim (is_formula book q) as (λ b. is_formula book q ≡ b → ⊥) [
+  | true ↦ λ formula. not_both (is_stale book changed q) (ap (λ b. b && reaches (cell_precedents book) changed (formula_count book) q) formula ∙ reaches-within book ordered changed r.0 q r.1) fresh
+  | false ↦ λ constant. not_both (is_among changed q) (sym (reaches-constant book changed r.0 q constant) ∙ r.1) unchanged
+] refl
+
+-- ---- what is stale, followed and shown
+pub stale-alike : (book : List (Cell × Content)) (changed same : List Cell) → AreAlike changed same → (q : Cell) → is_stale book changed q ≡ is_stale book same q
+stale-alike book changed same alike q = ap (λ b. is_formula book q && b) (reaches-alike (cell_precedents book) changed same alike (formula_count book) q)
+
+pub table-alike : (book : List (Cell × Content)) (changed same : List Cell) (table : List (Cell × List Area)) → AreAlike changed same → TableFollows book changed table → TableFollows book same table
+table-alike book changed same table alike follows q none = follows q (alike q ∙ none)
+
+pub shows-alike : (book : List (Cell × Content)) (changed same : List Cell) (store : StoreState) → AreAlike changed same → ShowsWhereClean book changed store → ShowsWhereClean book same store
+shows-alike book changed same store alike clean q =
+    ⊎_elim (λ h. inl h) (λ r. inr (r.0, sym (reaches-alike (cell_precedents book) changed same alike r.0 q) ∙ r.1)) (clean q)
+
+-- ---- of the changed cells of a state it matters alone which they are
+pub rest-alike : (answer : Answers) (b : CalcBook) (s : CalcState) (same : List Cell) → AreAlike s.changed same → AtRest answer b s → AtRest answer b (record s { changed = same })
+rest-alike answer b s same alike rest = record {
+  holds = record {
+    book = rest.holds.book;
+    plain = rest.holds.plain;
+    ordered = rest.holds.ordered;
+    completed = rest.holds.completed;
+    changed = λ q. rest.holds.changed q ∙ alike q;
+    chain = rest.holds.chain;
+    shown = rest.holds.shown;
+  };
+  table = table-alike s.book s.changed same b.table alike rest.table;
+  clean = shows-alike s.book s.changed same b.store alike rest.clean;
+  others = λ q none. rest.others q (alike q ∙ none);
+}
+
+pub round-alike : (answer : Answers) (b : CalcBook) (s : CalcState) (same : List Cell) → AreAlike s.changed same → InRound answer b s → InRound answer b (record s { changed = same })
+round-alike answer b s same alike round = record {
+  holds = record {
+    book = round.holds.book;
+    plain = round.holds.plain;
+    ordered = round.holds.ordered;
+    completed = round.holds.completed;
+    changed = λ q. round.holds.changed q ∙ alike q;
+    chain = round.holds.chain;
+    shown = round.holds.shown;
+  };
+  table = round.table;
+  marked = λ q. round.marked q ∙ stale-alike s.book s.changed same alike q;
+  working = round.working;
+}
+
+-- ---- cells that are filtered
+taken : (a b t : Bool) → (a ≡ true → t ≡ true) → (a || (b && t)) ≡ ((a || b) && t)
+taken true b t f = sym (f refl)
+taken false b t f = refl
+
+passed : (a b t : Bool) → (a ≡ true → t ≡ false) → (b && t) ≡ ((a || b) && t)
+passed true true t f = refl
+passed true false t f = sym (f refl)
+passed false b t f = refl
+
+-- the cells that pass
+pub among-filter : (p : Cell → Bool) (cells : List Cell) (q : Cell) → is_among (filter p cells) q ≡ (is_among cells q && p q)
+among-filter p [] q = refl
+among-filter p (c ∷ cells) q = elim (p c) as (λ b. p c ≡ b → is_among (cond b (c ∷ filter p cells) (filter p cells)) q ≡ ((same_cell q c || is_among cells q) && p q)) [
+  | true ↦ λ e. ap (λ b. same_cell q c || b) (among-filter p cells q) ∙ taken (same_cell q c) (is_among cells q) (p q) (λ same. ap p (same_cell_is q c same) ∙ e)
+  | false ↦ λ e. among-filter p cells q ∙ passed (same_cell q c) (is_among cells q) (p q) (λ same. ap p (same_cell_is q c same) ∙ e)
+] refl
+
+all_filtered : (P : Cell → Type 0) (p : Cell → Bool) (xs : List Cell) → AllByRecursion P xs → AllByRecursion P (filter p xs)
+all_filtered P p [] h = tt
+all_filtered P p (x ∷ xs) h = elim (p x) as (λ b. AllByRecursion P (cond b (x ∷ filter p xs) (filter p xs))) [
+  | true ↦ (h.0, all_filtered P p xs h.1)
+  | false ↦ all_filtered P p xs h.1
+]
+
+-- each stands once
+pub distinct-filter : (p : Cell → Bool) (xs : List Cell) → IsDistinct same_cell xs → IsDistinct same_cell (filter p xs)
+distinct-filter p [] d = d
+distinct-filter p (x ∷ xs) d =
+    let rest = distinct-filter p xs (IsDistinct-tail same_cell x xs d) in
+    elim (p x) as (λ b. IsDistinct same_cell (cond b (x ∷ filter p xs) (filter p xs))) [
+      | true ↦ IsDistinct-cons same_cell x (filter p xs) (all_filtered (λ y. same_cell x y ≡ false) p xs (IsDistinct-head same_cell x xs d)) rest
+      | false ↦ rest
+    ]
