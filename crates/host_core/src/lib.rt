@@ -5,6 +5,8 @@ mod desks;
 mod hosts;
 mod round_books;
 #[cfg(test)]
+mod random_tests;
+#[cfg(test)]
 mod tests;
 
 pub use cell_values::Memory;
