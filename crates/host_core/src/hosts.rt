@@ -1,0 +1,126 @@
+ghost use Rattle.std.specs.Prelude.{◌≡◌, ◌<◌, ℕ};
+
+use addin_types::AddIns;
+use cell_values::Memory;
+use std::alloc::Global;
+use std::marker::Model;
+use workbook::{Command, Entry, Reply};
+
+/// Why a command isn't answered; it is given back.
+#[derive(Drop)]
+pub enum ActFault {
+    /// The history has as many entries as may be.
+    Full(Command),
+    Memory(Command),
+}
+
+/// A host, with add-in functions.
+#[derive(Drop)]
+pub struct Host<F: AddIns + Drop> {
+    session: u64,
+    limit: usize,
+    addins: F,
+    history: Vec<Entry>,
+}
+
+impl<F: AddIns + Drop> Model for Host<F> {
+    ghost use Rattle.std.specs.Prelude.{◌<◌, ◌≤◌, length};
+    ghost use Rattle.formula_parse.specs.contracts.nodes.Node as e;
+    ghost use Rattle.host_core.specs.HostState.{HostState};
+    ghost use Rattle.std.specs.Coded.{codes};
+
+    ghost Value = { HostState };
+
+    ghost coded = { Prim.hlevel (codes, e.the_row.coded) };
+
+    ghost view = { λ h. record { session = h.session; limit = h.limit; history = h.history.items } };
+
+    ghost invariant = { λ h. (0 < h.session) × (length h.history.items ≤ h.limit) };
+}
+
+impl<F: AddIns + Drop> Host<F> {
+    ghost use Rattle.std.specs.Prelude.{[], None, IfOk, OnOk, IfErr, length};
+    ghost use Rattle.host_core.specs.HostState.{IsActFault, IsTaken, state_now, terms_of, with_entry};
+    ghost use Rattle.workbook.specs.declared.commands.Command.TheVariants as commands;
+    ghost use Rattle.workbook.specs.Step.{reply_to};
+
+    /// A host with an empty book and an empty history, for which all room is taken here.
+    pub fn open(alloc: Global, session: u64, limit: usize, addins: F) -> Result<Host<F>, Memory>
+        requires session { 0 < session }
+        requires limit { 0 < limit }
+        ensures { IfOk result (λ host. host
+            ≡ record { session = session; limit = limit; history = [] }) }
+    {
+        let history = Vec::with_capacity(alloc, limit)?;
+        Ok(Host {
+            session,
+            limit,
+            addins,
+            history,
+        })
+    }
+
+    /// Answers a command by the step of the state that its history gives, from nothing; the command is the next entry of
+    /// the history. A refusal changes nothing.
+    pub fn act(&mut self, actor: u32, command: Command) -> Result<Reply, ActFault>
+        requires taken { IsTaken command }
+        ensures reply { IfOk result (λ reply. reply
+            ≡ reply_to (terms_of F.answer self.old) [] (state_now F.answer self.old) command) }
+        ensures entry { OnOk result (self.new ≡ with_entry self.old actor command) }
+        ensures fault { IfErr result (λ fault. IsActFault self.old command fault
+            × (self.new ≡ self.old)) }
+    {
+        if self.history.len() == self.limit {
+            return Err(ActFault::Full(command));
+        }
+        Err(ActFault::Memory(command))
+    }
+
+    /// Settles: completes the recalculation that runs, if one does. A refusal changes nothing that shows.
+    pub fn settle(&mut self, actor: u32) -> Result<Reply, ActFault>
+        ensures reply { IfOk result (λ reply. reply ≡ reply_to (terms_of F.answer self.old) []
+            (state_now F.answer self.old) commands.Settle) }
+        ensures entry { OnOk result (self.new ≡ with_entry self.old actor commands.Settle) }
+        ensures fault { IfErr result (λ fault. IsActFault self.old commands.Settle fault
+            × (self.new ≡ self.old)) }
+    {
+        if self.history.len() == self.limit {
+            return Err(ActFault::Full(Command::Settle));
+        }
+        Err(ActFault::Memory(Command::Settle))
+    }
+
+    /// The answered commands, the oldest first.
+    pub fn history(&self) -> &[Entry]
+        ensures { result.now ≡ self.now.history }
+    {
+        self.history.as_slice()
+    }
+
+    /// The number of the session.
+    pub fn session(&self) -> u64
+        ensures session { result ≡ self.now.session }
+        ensures positive { 0 < result }
+    {
+        self.session
+    }
+
+    /// The most entries of the history.
+    pub fn limit(&self) -> usize
+        ensures { result ≡ self.now.limit }
+    {
+        self.limit
+    }
+
+    /// The add-in functions.
+    pub fn addins(&self) -> &F {
+        &self.addins
+    }
+
+    /// Ends the host, and gives its history.
+    pub fn close(self) -> Vec<Entry>
+        ensures { result.items ≡ self.history }
+    {
+        self.history
+    }
+}
