@@ -1,7 +1,7 @@
 use Rattle.std.proofs.Common.{◌≡◌, ◌++◌, ◌∙◌, Err, OnOk, Some, ap, subst, sym}
 use Rattle.sheet_print.proofs.PublicLaws.{OnOk-with}
 use Rattle.session_script.specs.declared.script.Parsed.TheVariants.{Calc, One}
-use Rattle.rtdhost.specs.Engine.{Stands}
+use Rattle.rtdhost.specs.Desk.{Stands}
 use Rattle.rtdhost.specs.Output.{said_after, said_reply}
 use Rattle.rtdhost.proofs.SaidCommands.{one_answered, said_taken}
 use Rattle.rtdhost.proofs.answering.answer.Goals as goal
@@ -20,9 +20,9 @@ calculate-requires-clause-dirty c =
 
 pub returns-in-Ok-One-clause-step : goal.returns-in-Ok-One-clause-step
 returns-in-Ok-One-clause-step c s stands =
-    one_answered c.act.result s _ c.in-Ok-One.command c.args.out.now.items c.act.new.out.items c.act.new.engine (c.in-Ok-One.ensures.said ∙ ap Some c.in-Ok-One.field-0-is) (c.act.ensures.step s stands)
+    one_answered c.act.result s _ c.in-Ok-One.command c.args.out.now.items c.act.new.out.items c.act.new.desk (c.in-Ok-One.ensures.said ∙ ap Some c.in-Ok-One.field-0-is) (c.act.ensures.step s stands)
 
 pub returns-in-Ok-Calc-clause-step : goal.returns-in-Ok-Calc-clause-step
 returns-in-Ok-Calc-clause-step c s stands =
-    subst (λ said. OnOk c.calculate.result ((c.calculate.new.out.items ≡ c.args.out.now.items ++ said_reply s said) × Stands c.calculate.new.engine (said_after s said)))
+    subst (λ said. OnOk c.calculate.result ((c.calculate.new.out.items ≡ c.args.out.now.items ++ said_reply s said) × Stands c.calculate.new.desk (said_after s said)))
     (sym (c.in-Ok-Calc.ensures.said ∙ ap Some c.in-Ok-Calc.field-0-is)) (c.calculate.ensures.step s stands)
