@@ -1,4 +1,5 @@
 -- Laws that the proofs of this crate share.
+mod Desks
 pub mod Endings
 pub mod Faults
 pub mod Rooms

@@ -1,6 +1,6 @@
 -- What is written where no more than so many commands are answered.
 use Rattle.std.proofs.Common.{◌≡◌, ℕ, ◌+◌, ◌-◌, ◌<◌, ◌≤◌, Bool, true, false, cond, List, [], ◌∷◌, ◌++◌, length, take, Option, Some, None, refl, sym, ap, ◌∙◌, append_assoc, arith}
-use Rattle.std.specs.Prelude.{nat_le, suc}
+use Rattle.std.specs.Prelude.{nat_le, zero, suc}
 use Rattle.std.specs.List.{flat_map}
 use Rattle.std.proofs.lemmas.Bool.{le-leb, lt-leb}
 use Rattle.workbook.specs.declared.commands.Command.{Command}
@@ -13,7 +13,7 @@ use Rattle.sheet_print.specs.Replies.{reply_text}
 use Rattle.rtdhost.specs.Output.{commands_in, commands_of_line, program_terms, replies_from, replies_to_first, replies_within, said_after, said_reply, state_from}
 
 pub commands_in-append : (lines more : List (List ℕ)) → commands_in (lines ++ more) ≡ commands_in lines + commands_in more
-commands_in-append [] more = refl
+commands_in-append [] more = omega arith
 commands_in-append (line ∷ lines) more = omega (arith, commands_in-append lines more)
 
 pub commands_in-one : (lines : List (List ℕ)) (line : List ℕ) → commands_in (lines ++ line ∷ []) ≡ commands_in lines + length (commands_of_line (line_said line))
@@ -29,7 +29,7 @@ other false x y h = refl
 
 -- the lines whose commands are all answered, and more
 pub within-append : (lines more : List (List ℕ)) (s : State) (room left : ℕ) → room ≡ commands_in lines + left → replies_within room s (lines ++ more) ≡ replies_from s lines ++ replies_within left (state_from s lines) more
-within-append [] more s room left fits = ap (λ n. replies_within n s more) fits
+within-append [] more s room left fits = ap (λ n. replies_within n s more) (omega (arith, fits))
 within-append (line ∷ lines) more s room left fits =
     let count = length (commands_of_line (line_said line)) in
     chosen (nat_le count room) _ _ (le-leb count room (omega (arith, fits)))
@@ -43,7 +43,7 @@ within-first line more s room few =
 
 -- the replies to the first of some commands are the first of the replies
 replies-first : (count : ℕ) (s : State) (commands : List Command) → (rest : List ℕ) × (flat_map reply_text (replies_to_all program_terms s commands) ≡ flat_map reply_text (replies_to_all program_terms s (take count commands)) ++ rest)
-replies-first 0 s commands = (flat_map reply_text (replies_to_all program_terms s commands), refl)
+replies-first zero s commands = (flat_map reply_text (replies_to_all program_terms s commands), refl)
 replies-first (suc n) s [] = ([], refl)
 replies-first (suc n) s (command ∷ commands) =
     let later = replies-first n (state_after program_terms [] s command) commands in

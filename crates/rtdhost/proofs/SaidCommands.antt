@@ -1,5 +1,5 @@
 -- The lines of a script say commands that a plain desk takes.
-use Rattle.std.proofs.Common.{◌≡◌, ℕ, Bool, true, false, cond, List, [], ◌++◌, Option, Some, None, Result, Ok, Err, OnOk, ap, sym, subst, ◌∙◌, append_assoc, append-nil}
+use Rattle.std.proofs.Common.{◌≡◌, ℕ, Bool, true, false, cond, List, [], ◌++◌, Option, Some, None, Result, Ok, Err, IfErr, OnOk, ap, sym, subst, ◌∙◌, append_assoc, append-nil, refl, arith}
 use Rattle.std.specs.Prelude.{◌==◌, codes, length, nat_lt, option_and_then, option_map}
 use Rattle.std.specs.List.{after_first, before_first}
 use Rattle.std.specs.Str.{bytes_eq}
@@ -18,8 +18,10 @@ use Rattle.workbook.specs.declared.contents.Content.{Content}
 use Rattle.workbook.specs.State.{State}
 use Rattle.workbook.specs.Step.{reply_to, state_after}
 use Rattle.host_core.specs.HostState.{HostState}
-use Rattle.rtdhost.specs.Desk.{SaysDeskCommands, Stands}
-use Rattle.rtdhost.specs.Output.{program_terms, said_reply, said_after}
+use Rattle.rtdhost.specs.Desk.{IsRefused, SaysDeskCommands, Stands, room_of}
+use Rattle.rtdhost.specs.Output.{program_terms, replies_to_first, said_reply, said_after}
+use Rattle.rtdhost.specs.declared.answering.Refusal.{Refusal}
+use Rattle.rtdhost.specs.declared.answering.Refusal.TheVariants as refusals
 
 -- what is said, if anything is, are commands that a plain desk takes
 abbrev SaysIfTaken : Option Parsed → Type 0
@@ -78,6 +80,19 @@ one_answered (Ok x) s said command old new desk is both =
     subst (λ o. (new ≡ old ++ said_reply s o) × Stands desk (said_after s o)) (sym is)
     (both.0 ∙ ap (λ bs. old ++ bs) (sym (append-nil (reply_text (reply_to program_terms [] s command)))), both.1)
 one_answered (Err e) s said command old new desk is both = tt
+
+-- a command that a full desk refused leaves what is held as it was
+pub one_refused : {T : Type 0} (r : Result T Refusal) (desk : HostState) (s : State) (said : Option Parsed) (command : Command) (old new : List ℕ)
+    → said ≡ Some (parsed.One command)
+    → (r ≡ Err refusals.Full → (length desk.history ≡ program_terms.limit) × (new ≡ old))
+    → IfErr r (IsRefused desk s said old new)
+one_refused (Ok x) desk s said command old new is full = tt
+one_refused (Err refusals.Memory) desk s said command old new is full = tt
+one_refused (Err refusals.Full) desk s said command old new is full =
+    let f = full refl in
+    let none : room_of desk ≡ 0 = omega (arith, f.0) in
+    subst (λ o. IsRefused desk s o old new refusals.Full) (sym is)
+    (omega (arith, f.0), f.1 ∙ sym (append-nil old) ∙ ap (λ n. old ++ replies_to_first n s (Some (parsed.One command))) (sym none))
 
 -- the replies to a begin and a settle, one behind the other, are what is written for a `calc`
 calc_said : (s : State) (kind : BeginKind) (old mid new : List ℕ)

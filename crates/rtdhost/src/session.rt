@@ -187,6 +187,7 @@ impl Session {
         ensures prefix { OnErr result (AppendsPrefix (O.written out.old) self.now.replies.items
             (O.written out.new)) }
         ensures steady { OnOk result (O.faults out.new ≡ O.faults out.old) }
+        ensures write { IfErr result (λ stop. stop ≡ RunFault.Write) }
         ensures caused { IfErr result (λ stop. IsWriteCaused stop (O.faults out.old)
             (O.faults out.new)) }
         ensures writes { O.faults out.old ≤ O.faults out.new }
