@@ -1,5 +1,5 @@
 -- What is written where no more than so many commands are answered.
-use Rattle.std.proofs.Common.{◌≡◌, ℕ, ◌+◌, ◌-◌, ◌<◌, ◌≤◌, Bool, true, false, cond, List, [], ◌∷◌, ◌++◌, length, take, Option, Some, None, refl, sym, ap, ◌∙◌, append_assoc, arith}
+use Rattle.std.proofs.Common.{◌≡◌, ℕ, ◌+◌, ◌-◌, ◌<◌, ◌≤◌, Bool, true, false, cond, List, [], ◌∷◌, ◌++◌, length, take, Option, Some, None, Result, Ok, Err, OnErr, refl, sym, ap, subst, ◌∙◌, append_assoc, arith}
 use Rattle.std.specs.Prelude.{nat_le, zero, suc}
 use Rattle.std.specs.List.{flat_map}
 use Rattle.std.proofs.lemmas.Bool.{le-leb, lt-leb}
@@ -9,6 +9,8 @@ use Rattle.workbook.specs.State.{State}
 use Rattle.workbook.specs.Step.{reply_to, state_after}
 use Rattle.session_script.specs.declared.script.Parsed.{Parsed}
 use Rattle.session_script.specs.Script.{line_said}
+use Rattle.host_io.specs.Sink.{AppendsPrefix}
+use Rattle.host_io.proofs.PublicLaws.{AppendsPrefix-wider}
 use Rattle.sheet_print.specs.Replies.{reply_text}
 use Rattle.rtdhost.specs.Output.{commands_in, commands_of_line, program_terms, replies_from, replies_to_first, replies_within, said_after, said_reply, state_from}
 
@@ -53,3 +55,10 @@ replies-first (suc n) s (command ∷ commands) =
 pub said-first : (room : ℕ) (s : State) (said : Option Parsed) → room < length (commands_of_line said) → (rest : List ℕ) × (said_reply s said ≡ replies_to_first room s said ++ rest)
 said-first room s None few = absurd (omega (arith, few))
 said-first room s (Some said) few = replies-first room s (commands_of_line (Some said))
+
+-- what is held of a line whose later commands are refused, or a prefix of it, is a prefix of what the line is answered with
+pub prefix-first : {T E : Type 0} (answer : Result T E) (room : ℕ) (s : State) (said : Option Parsed) (held : List ℕ) (old new : Option (List ℕ)) → room < length (commands_of_line said) → held ≡ replies_to_first room s said → AppendsPrefix old held new → OnErr answer (AppendsPrefix old (said_reply s said) new)
+prefix-first (Ok x) room s said held old new few is prefix = tt
+prefix-first (Err e) room s said held old new few is prefix =
+    let rest = said-first room s said few in
+    subst (λ bs. AppendsPrefix old bs new) (sym rest.1) (AppendsPrefix-wider old new (replies_to_first room s said) rest.0 (subst (λ bs. AppendsPrefix old bs new) is prefix))
