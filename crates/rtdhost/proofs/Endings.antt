@@ -8,7 +8,6 @@ use Rattle.rtdhost.specs.declared.program.Status.{Status}
 use Rattle.rtdhost.specs.declared.program.Status.TheVariants as statuses
 use Rattle.host_io.specs.declared.run_faults.RunFault.{RunFault}
 use Rattle.host_io.specs.declared.run_faults.RunFault.TheVariants as run_faults
-use Rattle.rtdhost.specs.Desk.{Stands}
 use Rattle.host_io.specs.Lines.{lines_of, whole_lines}
 use Rattle.rtdhost.specs.Output.{commands_in, output_of, program_terms, replies_from, replies_within}
 use Rattle.rtdhost.specs.Words.{is_run, usage_line}

@@ -1,6 +1,6 @@
 use Rattle.std.proofs.Common.{◌≡◌, ◌++◌, ◌∙◌, Err, IfErr, OnOk, Some, ap, subst, sym}
 use Rattle.sheet_print.proofs.PublicLaws.{OnOk-with}
-use Rattle.session_script.specs.declared.script.Parsed.TheVariants.{Calc, One}
+use Rattle.session_script.specs.declared.script.Parsed.TheVariants.{One}
 use Rattle.rtdhost.specs.Desk.{IsRefused, Stands}
 use Rattle.rtdhost.specs.Output.{said_after, said_reply}
 use Rattle.rtdhost.proofs.SaidCommands.{one_answered, one_refused, said_taken}

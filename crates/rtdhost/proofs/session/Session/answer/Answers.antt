@@ -1,4 +1,4 @@
-use Rattle.std.proofs.Common.{List, [], subst, OnErr}
+use Rattle.std.proofs.Common.{[], subst, OnErr}
 use Rattle.host_io.specs.Sink.{Appends, AppendsPrefix}
 use Rattle.rtdhost.specs.Desk.{IsRefused, room_of}
 use Rattle.session_script.specs.Script.{line_said}

@@ -1,4 +1,4 @@
-use Rattle.std.proofs.Common.{◌≡◌, ◌-◌, ◌≤◌, ℕ, List, Option, None}
+use Rattle.std.proofs.Common.{◌≡◌, ◌-◌, ℕ, List, Option, None}
 use Rattle.host_io.specs.declared.limits.TheConstants.{MAX_INPUT}
 use Rattle.host_io.specs.LineReader.{given_out_count}
 use Rattle.rtdhost.specs.Session.{HasAnswered}
