@@ -100,8 +100,8 @@ line_full all before desk r line left written written' had empty few wrote =
     let count = commands_in-append had.lines (had.text ∷ rest.0) in
     let fits : program_terms.limit ≡ commands_in had.lines + room_of desk = omega (arith, had.count, had.stands.within) in
     let within = within-append had.lines (had.text ∷ rest.0) first_state program_terms.limit (room_of desk) fits
-        ∙ ap (λ bs. replies_from first_state had.lines ++ bs) (within-first had.text rest.0 (state_from first_state had.lines) (room_of desk) few) in (
+    ∙ ap (λ bs. replies_from first_state had.lines ++ bs) (within-first had.text rest.0 (state_from first_state had.lines) (room_of desk) few) in (
       subst (λ lines. program_terms.limit < commands_in lines) (sym rest.1) (omega (arith, count, fits, few)),
       subst (λ lines. Appends before (replies_within program_terms.limit first_state lines) written') (sym rest.1)
-      (subst (λ bs. Appends before bs written') (sym within) (Appends-more before written written' (replies_from first_state had.lines) _ had.wrote wrote)),
+          (subst (λ bs. Appends before bs written') (sym within) (Appends-more before written written' (replies_from first_state had.lines) _ had.wrote wrote)),
     )

@@ -12,7 +12,7 @@ returns-in-Err-Later-clause-step c s stands =
 
 pub act-requires : goal.act-requires
 act-requires c =
-    record { taken = said_taken c.args.line.now (One c.in-Ok-One.command) (c.in-Ok-One.ensures.said ∙ ap Some c.in-Ok-One.field-0-is); }
+    record { taken = said_taken c.args.line.now (One c.in-Ok-One.command) (c.in-Ok-One.ensures.said ∙ ap Some c.in-Ok-One.field-0-is) }
 
 pub returns-in-Ok-One-clause-step : goal.returns-in-Ok-One-clause-step
 returns-in-Ok-One-clause-step c s stands =
