@@ -9,4 +9,6 @@ pub enum RunFault {
     Limit,
     /// Memory ran out.
     Memory,
+    /// A command came after as many were answered as may be.
+    Full,
 }

@@ -3,14 +3,13 @@ use Rattle.std.proofs.Common.{◌≡◌, ◌⊎◌, inl, inr, ℕ, ◌<◌, ◌�
 use Rattle.std.proofs.lemmas.Bool.{false≢true}
 use Rattle.std.specs.Io.KnownBytes.{Keeps}
 use Rattle.workbook.specs.State.{first_state}
-use Rattle.rtdhost.specs.declared.engine.Engine.{Engine}
+use Rattle.host_core.specs.HostState.{HostState}
 use Rattle.rtdhost.specs.declared.program.Status.{Status}
 use Rattle.rtdhost.specs.declared.program.Status.TheVariants as statuses
 use Rattle.host_io.specs.declared.run_faults.RunFault.{RunFault}
 use Rattle.host_io.specs.declared.run_faults.RunFault.TheVariants as run_faults
-use Rattle.rtdhost.specs.Engine.{Stands}
 use Rattle.host_io.specs.Lines.{lines_of, whole_lines}
-use Rattle.rtdhost.specs.Output.{output_of, replies_from}
+use Rattle.rtdhost.specs.Output.{commands_in, output_of, program_terms, replies_from, replies_within}
 use Rattle.rtdhost.specs.Words.{is_run, usage_line}
 use Rattle.rtdhost.specs.Endings.{HasEnded, IsFaultCounted, status_of}
 use Rattle.host_io.specs.LineReader.{LineReader}
@@ -24,19 +23,25 @@ keeps_itself : (bytes : Option (List ℕ)) → Keeps bytes bytes
 keeps_itself None = tt
 keeps_itself (Some bytes) = refl
 
+-- the desk of a session that has read nothing
+abbrev first_desk : HostState
+first_desk = record { session = 1; limit = program_terms.limit; history = [] }
+
 -- a session that has read nothing has answered all of nothing
-pub started : (input : List ℕ) (engine : Engine) (reading : LineReader) (left written : Option (List ℕ)) → reading ≡ record { pending = []; taken = 0; ended = false; fault = None } → Stands engine first_state → left ≡ Some input → HasAnswered input written engine reading left written
-started input engine reading left written new stands told =
-    subst (λ r. HasAnswered input written engine r left written) (sym new)
+pub started : (input : List ℕ) (desk : HostState) (reading : LineReader) (left written : Option (List ℕ)) → reading ≡ record { pending = []; taken = 0; ended = false; fault = None } → desk ≡ record { session = 1; limit = program_terms.limit; history = [] } → left ≡ Some input → HasAnswered input written desk reading left written
+started input desk reading left written new opened told =
+    subst (λ d. HasAnswered input written d reading left written) (sym opened)
+    (subst (λ r. HasAnswered input written first_desk r left written) (sym new)
     (record {
       lines = [];
       rest = input;
       told = told;
       given = HasGiven-start input;
       ended = λ e. absurd (false≢true e);
-      stands = stands;
+      stands = record { terms = refl; within = omega arith; state = refl };
+      count = refl;
       wrote = Appends-none written written (keeps_itself written);
-    })
+    }))
 
 run_output : (words : List (List ℕ)) (input : List ℕ) → is_run words ≡ true → output_of words input ≡ replies_from first_state (lines_of input)
 run_output words input run = ap (λ b. cond b (replies_from first_state (lines_of input)) usage_line) run
@@ -49,6 +54,7 @@ ended_by run_faults.Read words all before left written run stopped = (run, stopp
 ended_by run_faults.Write words all before left written run stopped = subst (λ bs. AppendsPrefix before bs written) (sym (run_output words all run)) stopped.0
 ended_by run_faults.Limit words all before left written run stopped = (run, stopped)
 ended_by run_faults.Memory words all before left written run stopped = (run, stopped)
+ended_by run_faults.Full words all before left written run stopped = (run, stopped)
 
 -- a session that stopped early
 pub stopped_ended : (stop : RunFault) (status : Status) (words : List (List ℕ)) (all : List ℕ) (before left written : Option (List ℕ)) → status ≡ status_of stop → is_run words ≡ true → HasStopped stop all before left written → HasEnded status words all before left written
@@ -82,6 +88,16 @@ pub limit_answered : (status : Status) (words : List (List ℕ)) (all : List ℕ
 limit_answered status words all before left written written' ended is kept =
     Appends-kept before written written' _ (as_status status statuses.InputLimit words all before left written ended is).1.1.1 kept
 
+pub ok_fits : (status : Status) (words : List (List ℕ)) (all : List ℕ) (before left written : Option (List ℕ)) → HasEnded status words all before left written → status ≡ statuses.Ok → commands_in (lines_of all) ≤ program_terms.limit
+ok_fits status words all before left written ended is = (as_status status statuses.Ok words all before left written ended is).1.fits
+
+pub full_passed : (status : Status) (words : List (List ℕ)) (all : List ℕ) (before left written : Option (List ℕ)) → HasEnded status words all before left written → status ≡ statuses.SessionFull → program_terms.limit < commands_in (lines_of all)
+full_passed status words all before left written ended is = (as_status status statuses.SessionFull words all before left written ended is).1.1.0
+
+pub full_answered : (status : Status) (words : List (List ℕ)) (all : List ℕ) (before left written written' : Option (List ℕ)) → HasEnded status words all before left written → status ≡ statuses.SessionFull → Keeps written written' → Appends before (replies_within program_terms.limit first_state (lines_of all)) written'
+full_answered status words all before left written written' ended is kept =
+    Appends-kept before written written' _ (as_status status statuses.SessionFull words all before left written ended is).1.1.1 kept
+
 -- a prefix of the output, with every status
 prefix_by : (words : List (List ℕ)) (all : List ℕ) (before written : Option (List ℕ)) → is_run words ≡ true → AppendsPrefix before (replies_from first_state (lines_of all)) written → AppendsPrefix before (output_of words all) written
 prefix_by words all before written run prefix = subst (λ bs. AppendsPrefix before bs written) (sym (run_output words all run)) prefix
@@ -94,6 +110,7 @@ ended_prefix statuses.ReadFault words all before left written ended = prefix_by 
 ended_prefix statuses.WriteFault words all before left written ended = ended
 ended_prefix statuses.Memory words all before left written ended = prefix_by words all before written ended.0 ended.1.0
 ended_prefix statuses.InputLimit words all before left written ended = prefix_by words all before written ended.0 ended.1.0
+ended_prefix statuses.SessionFull words all before left written ended = prefix_by words all before written ended.0 ended.1.0
 
 pub prefix_wrote : (status : Status) (words : List (List ℕ)) (all : List ℕ) (before left written written' : Option (List ℕ)) → HasEnded status words all before left written → Keeps written written' → AppendsPrefix before (output_of words all) written'
 prefix_wrote status words all before left written written' ended kept =
@@ -103,13 +120,14 @@ rose_on : (before now later : ℕ) → Rose before now → now ≤ later → Ros
 rose_on before now later rose more = omega (arith, rose, more)
 
 -- with no cause for another status
-pub no_cause : (status : Status) (words : List (List ℕ)) (all : List ℕ) (before left written : Option (List ℕ)) (reads reads' writes writes' writes'' : ℕ) → HasEnded status words all before left written → IsFaultCounted status reads reads' writes writes' → writes' ≤ writes'' → is_run words ≡ true → length all ≤ 67108864 → (Rose reads reads' → ⊥) → (Rose writes writes'' → ⊥) → (status ≡ statuses.Ok) ⊎ (status ≡ statuses.Memory)
-no_cause statuses.Ok words all before left written reads reads' writes writes' writes'' ended counted more run short read write = inl refl
-no_cause statuses.Usage words all before left written reads reads' writes writes' writes'' ended counted more run short read write = absurd (false≢true (sym ended.0 ∙ run))
-no_cause statuses.ReadFault words all before left written reads reads' writes writes' writes'' ended counted more run short read write = absurd (read counted.0)
-no_cause statuses.WriteFault words all before left written reads reads' writes writes' writes'' ended counted more run short read write = absurd (write (rose_on writes writes' writes'' counted.1 more))
-no_cause statuses.Memory words all before left written reads reads' writes writes' writes'' ended counted more run short read write = inr refl
-no_cause statuses.InputLimit words all before left written reads reads' writes writes' writes'' ended counted more run short read write = absurd (omega (arith, short, ended.1.1.0))
+pub no_cause : (status : Status) (words : List (List ℕ)) (all : List ℕ) (before left written : Option (List ℕ)) (reads reads' writes writes' writes'' : ℕ) → HasEnded status words all before left written → IsFaultCounted status reads reads' writes writes' → writes' ≤ writes'' → is_run words ≡ true → length all ≤ 67108864 → commands_in (lines_of all) ≤ program_terms.limit → (Rose reads reads' → ⊥) → (Rose writes writes'' → ⊥) → (status ≡ statuses.Ok) ⊎ (status ≡ statuses.Memory)
+no_cause statuses.Ok words all before left written reads reads' writes writes' writes'' ended counted more run short few read write = inl refl
+no_cause statuses.Usage words all before left written reads reads' writes writes' writes'' ended counted more run short few read write = absurd (false≢true (sym ended.0 ∙ run))
+no_cause statuses.ReadFault words all before left written reads reads' writes writes' writes'' ended counted more run short few read write = absurd (read counted.0)
+no_cause statuses.WriteFault words all before left written reads reads' writes writes' writes'' ended counted more run short few read write = absurd (write (rose_on writes writes' writes'' counted.1 more))
+no_cause statuses.Memory words all before left written reads reads' writes writes' writes'' ended counted more run short few read write = inr refl
+no_cause statuses.InputLimit words all before left written reads reads' writes writes' writes'' ended counted more run short few read write = absurd (omega (arith, short, ended.1.1.0))
+no_cause statuses.SessionFull words all before left written reads reads' writes writes' writes'' ended counted more run short few read write = absurd (omega (arith, few, ended.1.1.0))
 
 -- a status but WriteFault says that no write failed
 pub writes_stand : (status : Status) (reads reads' writes writes' : ℕ) → IsFaultCounted status reads reads' writes writes' → (status ≡ statuses.WriteFault) ⊎ (writes' ≡ writes)
@@ -119,6 +137,7 @@ writes_stand statuses.ReadFault reads reads' writes writes' counted = inr counte
 writes_stand statuses.WriteFault reads reads' writes writes' counted = inl refl
 writes_stand statuses.Memory reads reads' writes writes' counted = inr counted.1
 writes_stand statuses.InputLimit reads reads' writes writes' counted = inr counted.1
+writes_stand statuses.SessionFull reads reads' writes writes' counted = inr counted.1
 
 -- a status but ReadFault says that no read failed
 pub reads_stand : (status : Status) (reads reads' writes writes' : ℕ) → IsFaultCounted status reads reads' writes writes' → (status ≡ statuses.ReadFault) ⊎ (reads' ≡ reads)
@@ -128,6 +147,7 @@ reads_stand statuses.ReadFault reads reads' writes writes' counted = inl refl
 reads_stand statuses.WriteFault reads reads' writes writes' counted = inr counted.0
 reads_stand statuses.Memory reads reads' writes writes' counted = inr counted.0
 reads_stand statuses.InputLimit reads reads' writes writes' counted = inr counted.0
+reads_stand statuses.SessionFull reads reads' writes writes' counted = inr counted.0
 
 -- the same of writes, where a last one succeeds
 pub writes_stand_at_end : (status : Status) (reads reads' writes writes' writes'' : ℕ) → IsFaultCounted status reads reads' writes writes' → writes'' ≡ writes' → (status ≡ statuses.WriteFault) ⊎ (writes'' ≡ writes)
@@ -144,6 +164,7 @@ counted_by run_faults.Read reads reads' writes writes' caused = caused
 counted_by run_faults.Write reads reads' writes writes' caused = caused
 counted_by run_faults.Limit reads reads' writes writes' caused = caused
 counted_by run_faults.Memory reads reads' writes writes' caused = caused
+counted_by run_faults.Full reads reads' writes writes' caused = caused
 
 -- a session that stopped early counted what its status says
 pub stopped_counted : (stop : RunFault) (status : Status) (reads reads' writes writes' : ℕ) → status ≡ status_of stop → IsCaused stop reads reads' writes writes' → IsFaultCounted status reads reads' writes writes'

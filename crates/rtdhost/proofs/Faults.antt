@@ -25,6 +25,7 @@ caused_by_line (Err run_faults.Read) reads reads' writes writes' same h = absurd
 caused_by_line (Err run_faults.Write) reads reads' writes writes' same h = (same, h)
 caused_by_line (Err run_faults.Limit) reads reads' writes writes' same h = absurd h
 caused_by_line (Err run_faults.Memory) reads reads' writes writes' same h = (same, h)
+caused_by_line (Err run_faults.Full) reads reads' writes writes' same h = (same, h)
 
 caused_as : (fault : LineFault) (reads reads' writes : ℕ) → (◌≡◌ {A = Result Line LineFault} (Err fault) (Err faults.Read)) ⊎ (reads' ≡ reads) → (◌≡◌ {A = Result Line LineFault} (Err fault) (Err faults.Read) → Rose reads reads') → IsCaused (run_fault_of fault) reads reads' writes writes
 caused_as faults.Read reads reads' writes steady rose = (rose refl, refl)

@@ -1,5 +1,5 @@
--- The lines of a script say commands that the engine takes.
-use Rattle.std.proofs.Common.{◌≡◌, ℕ, Bool, true, false, cond, List, [], ◌++◌, Option, Some, None, Result, Ok, Err, OnOk, ap, sym, subst, ◌∙◌, append_assoc, append-nil}
+-- The lines of a script say commands that a plain desk takes.
+use Rattle.std.proofs.Common.{◌≡◌, ℕ, Bool, true, false, cond, List, [], ◌++◌, Option, Some, None, Result, Ok, Err, IfErr, OnOk, ap, sym, subst, ◌∙◌, append_assoc, append-nil, refl, arith}
 use Rattle.std.specs.Prelude.{◌==◌, codes, length, nat_lt, option_and_then, option_map}
 use Rattle.std.specs.List.{after_first, before_first}
 use Rattle.std.specs.Str.{bytes_eq}
@@ -17,15 +17,16 @@ use Rattle.workbook.specs.declared.commands.Command.TheVariants as commands
 use Rattle.workbook.specs.declared.contents.Content.{Content}
 use Rattle.workbook.specs.State.{State}
 use Rattle.workbook.specs.Step.{reply_to, state_after}
-use Rattle.rtdhost.specs.declared.engine.Engine.{Engine}
-use Rattle.rtdhost.specs.Engine.{Stands}
-use Rattle.rtdhost.specs.EngineState.{SaysTaken}
-use Rattle.rtdhost.specs.Output.{program_terms, said_reply, said_after}
+use Rattle.host_core.specs.HostState.{HostState}
+use Rattle.rtdhost.specs.Desk.{IsRefused, SaysDeskCommands, Stands, room_of}
+use Rattle.rtdhost.specs.Output.{program_terms, replies_to_first, said_reply, said_after}
+use Rattle.rtdhost.specs.declared.answering.Refusal.{Refusal}
+use Rattle.rtdhost.specs.declared.answering.Refusal.TheVariants as refusals
 
--- what is said, if anything is, are commands that the engine takes
+-- what is said, if anything is, are commands that a plain desk takes
 abbrev SaysIfTaken : Option Parsed → Type 0
 SaysIfTaken None = Unit {0}
-SaysIfTaken (Some said) = SaysTaken said
+SaysIfTaken (Some said) = SaysDeskCommands said
 
 -- one of two that say such commands
 either_taken : (b : Bool) (x y : Option Parsed) → SaysIfTaken x → SaysIfTaken y → SaysIfTaken (cond b x y)
@@ -67,18 +68,31 @@ line_taken line =
     (either_taken (length line == 0) (Some parsed.Empty) words tt (either_taken (is_utf8 line) (words_said line) None (words_taken line) tt))
 
 -- what a line says
-pub said_taken : (line : List ℕ) (said : Parsed) → line_said line ≡ Some said → SaysTaken said
+pub said_taken : (line : List ℕ) (said : Parsed) → line_said line ≡ Some said → SaysDeskCommands said
 said_taken line said is = subst SaysIfTaken is (line_taken line)
 
 -- the reply to one command is what is written for it
-pub one_answered : {T E : Type 0} (r : Result T E) (s : State) (said : Option Parsed) (command : Command) (old new : List ℕ) (engine : Engine)
+pub one_answered : {T E : Type 0} (r : Result T E) (s : State) (said : Option Parsed) (command : Command) (old new : List ℕ) (desk : HostState)
     → said ≡ Some (parsed.One command)
-    → OnOk r ((new ≡ old ++ reply_text (reply_to program_terms [] s command)) × Stands engine (state_after program_terms [] s command))
-    → OnOk r ((new ≡ old ++ said_reply s said) × Stands engine (said_after s said))
-one_answered (Ok x) s said command old new engine is both =
-    subst (λ o. (new ≡ old ++ said_reply s o) × Stands engine (said_after s o)) (sym is)
+    → OnOk r ((new ≡ old ++ reply_text (reply_to program_terms [] s command)) × Stands desk (state_after program_terms [] s command))
+    → OnOk r ((new ≡ old ++ said_reply s said) × Stands desk (said_after s said))
+one_answered (Ok x) s said command old new desk is both =
+    subst (λ o. (new ≡ old ++ said_reply s o) × Stands desk (said_after s o)) (sym is)
     (both.0 ∙ ap (λ bs. old ++ bs) (sym (append-nil (reply_text (reply_to program_terms [] s command)))), both.1)
-one_answered (Err e) s said command old new engine is both = tt
+one_answered (Err e) s said command old new desk is both = tt
+
+-- a command that a full desk refused leaves what is held as it was
+pub one_refused : {T : Type 0} (r : Result T Refusal) (desk : HostState) (s : State) (said : Option Parsed) (command : Command) (old new : List ℕ)
+    → said ≡ Some (parsed.One command)
+    → (r ≡ Err refusals.Full → (length desk.history ≡ program_terms.limit) × (new ≡ old))
+    → IfErr r (IsRefused desk s said old new)
+one_refused (Ok x) desk s said command old new is full = tt
+one_refused (Err refusals.Memory) desk s said command old new is full = tt
+one_refused (Err refusals.Full) desk s said command old new is full =
+    let f = full refl in
+    let none : room_of desk ≡ 0 = omega (arith, f.0) in
+    subst (λ o. IsRefused desk s o old new refusals.Full) (sym is)
+    (omega (arith, f.0), f.1 ∙ sym (append-nil old) ∙ ap (λ n. old ++ replies_to_first n s (Some (parsed.One command))) (sym none))
 
 -- the replies to a begin and a settle, one behind the other, are what is written for a `calc`
 calc_said : (s : State) (kind : BeginKind) (old mid new : List ℕ)
@@ -90,11 +104,11 @@ calc_said s kind old mid new first second =
     let settled = reply_text (reply_to program_terms [] (state_after program_terms [] s (commands.Begin kind)) commands.Settle) in
     second ∙ ap (λ bs. bs ++ settled) first ∙ append_assoc old begun settled ∙ ap (λ bs. old ++ (begun ++ bs)) (sym (append-nil settled))
 
--- the same of an engine that answered both
-pub calc_answered : {T E : Type 0} (r : Result T E) (s : State) (kind : BeginKind) (old mid new : List ℕ) (engine : Engine)
+-- the same of a desk that answered both
+pub calc_answered : {T E : Type 0} (r : Result T E) (s : State) (kind : BeginKind) (old mid new : List ℕ) (desk : HostState)
     → mid ≡ old ++ reply_text (reply_to program_terms [] s (commands.Begin kind))
     → OnOk r ((new ≡ mid ++ reply_text (reply_to program_terms [] (state_after program_terms [] s (commands.Begin kind)) commands.Settle))
-    × Stands engine (state_after program_terms [] (state_after program_terms [] s (commands.Begin kind)) commands.Settle))
-    → OnOk r ((new ≡ old ++ said_reply s (Some (parsed.Calc kind))) × Stands engine (said_after s (Some (parsed.Calc kind))))
-calc_answered (Ok x) s kind old mid new engine first both = (calc_said s kind old mid new first both.0, both.1)
-calc_answered (Err e) s kind old mid new engine first both = tt
+    × Stands desk (state_after program_terms [] (state_after program_terms [] s (commands.Begin kind)) commands.Settle))
+    → OnOk r ((new ≡ old ++ said_reply s (Some (parsed.Calc kind))) × Stands desk (said_after s (Some (parsed.Calc kind))))
+calc_answered (Ok x) s kind old mid new desk first both = (calc_said s kind old mid new first both.0, both.1)
+calc_answered (Err e) s kind old mid new desk first both = tt

@@ -1,17 +1,18 @@
 -- What one line more does to what a session has answered and written.
-use Rattle.std.proofs.Common.{◌≡◌, ℕ, ◌<◌, ◌⊎◌, inl, inr, Bool, true, false, cond, List, [], ◌∷◌, ◌++◌, length, Option, Some, None, refl, sym, ap, subst, ◌∙◌, append_assoc}
+use Rattle.std.proofs.Common.{◌≡◌, ℕ, ◌+◌, ◌<◌, ◌⊎◌, inl, inr, Bool, true, false, cond, List, [], ◌∷◌, ◌++◌, length, Option, Some, None, refl, sym, ap, subst, ◌∙◌, append_assoc, arith}
 use Rattle.std.proofs.lemmas.Bool.{lt-ltb}
 use Rattle.std.proofs.lemmas.List.{append-nil}
 use Rattle.workbook.specs.State.{State, first_state}
-use Rattle.rtdhost.specs.declared.engine.Engine.{Engine}
+use Rattle.host_core.specs.HostState.{HostState}
 use Rattle.host_io.specs.declared.reader.Line.{Line}
 use Rattle.session_script.specs.declared.script.Parsed.{Parsed}
-use Rattle.rtdhost.specs.Engine.{Stands}
+use Rattle.rtdhost.specs.Desk.{Stands, room_of}
 use Rattle.host_io.specs.Lines.{lines_of, IsWhole}
-use Rattle.rtdhost.specs.Output.{said_reply, said_after, replies_from, state_from}
+use Rattle.rtdhost.specs.Output.{commands_in, commands_of_line, program_terms, said_reply, said_after, replies_from, replies_to_first, replies_within, state_from}
 use Rattle.host_io.specs.LineReader.{LineReader, HasGiven, IsTextOf}
 use Rattle.session_script.specs.Script.{line_said}
 use Rattle.rtdhost.specs.Session.{HasAnswered}
+use Rattle.rtdhost.proofs.Rooms.{commands_in-append, commands_in-one, within-append, within-first}
 use Rattle.host_io.specs.Sink.{Appends, AppendsPrefix}
 use Rattle.host_io.proofs.PublicLaws.{lines_at_end}
 use Rattle.host_io.proofs.PublicLaws.{lines_of-append}
@@ -50,7 +51,7 @@ pub given_prefix : (all : List ℕ) (lines : List (List ℕ)) (r : LineReader) (
 given_prefix all lines r left had end = prefix_by all lines r left had had.whole end
 
 -- a line was given out that is not yet answered
-pub record HasNext (all : List ℕ) (before : Option (List ℕ)) (engine : Engine) (r : LineReader) (line : Line) (left written : Option (List ℕ)) : Type 0 where
+pub record HasNext (all : List ℕ) (before : Option (List ℕ)) (desk : HostState) (r : LineReader) (line : Line) (left written : Option (List ℕ)) : Type 0 where
   pub lines : List (List ℕ)
   pub text : List ℕ
   pub is : IsTextOf text line
@@ -58,28 +59,49 @@ pub record HasNext (all : List ℕ) (before : Option (List ℕ)) (engine : Engin
   pub told : left ≡ Some rest
   pub given : HasGiven all (lines ++ text ∷ []) r rest
   pub ended : r.ended ≡ true → rest ≡ []
-  pub stands : Stands engine (state_from first_state lines)
+  pub stands : Stands desk (state_from first_state lines)
+  pub count : length desk.history ≡ commands_in lines
   pub wrote : Appends before (replies_from first_state lines) written
 
-pub line_answered : (all : List ℕ) (before : Option (List ℕ)) (engine engine' : Engine) (r : LineReader) (line : Line) (left written written' : Option (List ℕ)) (had : HasNext all before engine r line left written) → Appends written (said_reply (state_from first_state had.lines) (line_said had.text)) written' → Stands engine' (said_after (state_from first_state had.lines) (line_said had.text)) → HasAnswered all before engine' r left written'
-line_answered all before engine engine' r line left written written' had wrote stands = record {
+pub line_answered : (all : List ℕ) (before : Option (List ℕ)) (desk desk' : HostState) (r : LineReader) (line : Line) (left written written' : Option (List ℕ)) (had : HasNext all before desk r line left written) → Appends written (said_reply (state_from first_state had.lines) (line_said had.text)) written' → Stands desk' (said_after (state_from first_state had.lines) (line_said had.text)) → length desk'.history ≡ length desk.history + length (commands_of_line (line_said had.text)) → HasAnswered all before desk' r left written'
+line_answered all before desk desk' r line left written written' had wrote stands count = record {
   lines = had.lines ++ had.text ∷ [];
   rest = had.rest;
   told = had.told;
   given = had.given;
   ended = had.ended;
-  stands = subst (Stands engine') (sym (state_more first_state had.lines had.text)) stands;
+  stands = subst (Stands desk') (sym (state_more first_state had.lines had.text)) stands;
+  count = omega (arith, count, had.count, commands_in-one had.lines had.text);
   wrote =
       subst (λ bs. Appends before bs written') (sym (replies_more first_state had.lines had.text))
       (Appends-more before written written' (replies_from first_state had.lines) _ had.wrote wrote);
 }
 
 -- a prefix of a line's answer makes a prefix of all answers
-pub line_stopped : (all : List ℕ) (before : Option (List ℕ)) (engine : Engine) (r : LineReader) (line : Line) (left written written' : Option (List ℕ)) (had : HasNext all before engine r line left written) → (r.ended ≡ true → r.pending ≡ []) → AppendsPrefix written (said_reply (state_from first_state had.lines) (line_said had.text)) written' → AppendsPrefix before (replies_from first_state (lines_of all)) written'
-line_stopped all before engine r line left written written' had empty prefix =
+pub line_stopped : (all : List ℕ) (before : Option (List ℕ)) (desk : HostState) (r : LineReader) (line : Line) (left written written' : Option (List ℕ)) (had : HasNext all before desk r line left written) → (r.ended ≡ true → r.pending ≡ []) → AppendsPrefix written (said_reply (state_from first_state had.lines) (line_said had.text)) written' → AppendsPrefix before (replies_from first_state (lines_of all)) written'
+line_stopped all before desk r line left written written' had empty prefix =
     let lines = had.lines ++ had.text ∷ [] in
     let rest = given_prefix all lines r had.rest had.given (λ e. (empty e, had.ended e)) in
     subst (λ bs. AppendsPrefix before bs written') (sym (ap (replies_from first_state) rest.1 ∙ replies-append first_state lines rest.0))
     (AppendsPrefix-wider before written' (replies_from first_state lines) _
     (subst (λ bs. AppendsPrefix before bs written') (sym (replies_more first_state had.lines had.text))
     (AppendsPrefix-more before written written' (replies_from first_state had.lines) _ had.wrote prefix)))
+
+-- the lines that were answered, the next one and more are all lines
+next_prefix : (all : List ℕ) (before : Option (List ℕ)) (desk : HostState) (r : LineReader) (line : Line) (left written : Option (List ℕ)) (had : HasNext all before desk r line left written) → (r.ended ≡ true → r.pending ≡ []) → (more : List (List ℕ)) × (lines_of all ≡ had.lines ++ had.text ∷ more)
+next_prefix all before desk r line left written had empty =
+    let rest = given_prefix all (had.lines ++ had.text ∷ []) r had.rest had.given (λ e. (empty e, had.ended e)) in
+    (rest.0, rest.1 ∙ append_assoc had.lines (had.text ∷ []) rest.0)
+
+-- a line says more commands than are answered, and the replies to those before are written
+pub line_full : (all : List ℕ) (before : Option (List ℕ)) (desk : HostState) (r : LineReader) (line : Line) (left written written' : Option (List ℕ)) (had : HasNext all before desk r line left written) → (r.ended ≡ true → r.pending ≡ []) → room_of desk < length (commands_of_line (line_said had.text)) → Appends written (replies_to_first (room_of desk) (state_from first_state had.lines) (line_said had.text)) written' → (program_terms.limit < commands_in (lines_of all)) × Appends before (replies_within program_terms.limit first_state (lines_of all)) written'
+line_full all before desk r line left written written' had empty few wrote =
+    let rest = next_prefix all before desk r line left written had empty in
+    let count = commands_in-append had.lines (had.text ∷ rest.0) in
+    let fits : program_terms.limit ≡ commands_in had.lines + room_of desk = omega (arith, had.count, had.stands.within) in
+    let within = within-append had.lines (had.text ∷ rest.0) first_state program_terms.limit (room_of desk) fits
+    ∙ ap (λ bs. replies_from first_state had.lines ++ bs) (within-first had.text rest.0 (state_from first_state had.lines) (room_of desk) few) in (
+      subst (λ lines. program_terms.limit < commands_in lines) (sym rest.1) (omega (arith, count, fits, few)),
+      subst (λ lines. Appends before (replies_within program_terms.limit first_state lines) written') (sym rest.1)
+          (subst (λ bs. Appends before bs written') (sym within) (Appends-more before written written' (replies_from first_state had.lines) _ had.wrote wrote)),
+    )

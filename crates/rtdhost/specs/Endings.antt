@@ -16,6 +16,7 @@ status_of run_faults.Read = statuses.ReadFault
 status_of run_faults.Write = statuses.WriteFault
 status_of run_faults.Limit = statuses.InputLimit
 status_of run_faults.Memory = statuses.Memory
+status_of run_faults.Full = statuses.SessionFull
 
 -- what was read and written with each status: these words, all bytes of the source, and what the sink held before
 abbrev pub HasEnded : Status → List (List ℕ) → List ℕ → Option (List ℕ) → Option (List ℕ) → Option (List ℕ) → Type 0
@@ -25,6 +26,7 @@ HasEnded statuses.ReadFault words all before left written = (is_run words ≡ tr
 HasEnded statuses.WriteFault words all before left written = AppendsPrefix before (output_of words all) written
 HasEnded statuses.Memory words all before left written = (is_run words ≡ true) × HasStopped run_faults.Memory all before left written
 HasEnded statuses.InputLimit words all before left written = (is_run words ≡ true) × HasStopped run_faults.Limit all before left written
+HasEnded statuses.SessionFull words all before left written = (is_run words ≡ true) × HasStopped run_faults.Full all before left written
 
 -- a failed read or write was counted, and every other count of faults stands
 abbrev pub IsFaultCounted : Status → ℕ → ℕ → ℕ → ℕ → Type 0
@@ -34,3 +36,4 @@ IsFaultCounted statuses.Ok reads reads' writes writes' = (reads' ≡ reads) × (
 IsFaultCounted statuses.Usage reads reads' writes writes' = (reads' ≡ reads) × (writes' ≡ writes)
 IsFaultCounted statuses.Memory reads reads' writes writes' = (reads' ≡ reads) × (writes' ≡ writes)
 IsFaultCounted statuses.InputLimit reads reads' writes writes' = (reads' ≡ reads) × (writes' ≡ writes)
+IsFaultCounted statuses.SessionFull reads reads' writes writes' = (reads' ≡ reads) × (writes' ≡ writes)

@@ -1,5 +1,5 @@
 -- What the program writes for the bytes that it reads.
-use Rattle.std.specs.Prelude.{ℕ, if◌then◌else◌, Option, Some, None, List, [], ◌∷◌, ◌++◌, codes}
+use Rattle.std.specs.Prelude.{ℕ, ◌+◌, ◌-◌, nat_le, if◌then◌else◌, Option, Some, None, List, [], ◌∷◌, ◌++◌, length, take, codes}
 use Rattle.std.specs.List.{flat_map}
 use Rattle.addin_types.specs.Samples.{sample_answer}
 use Rattle.workbook.specs.declared.commands.Command.{Command}
@@ -22,6 +22,11 @@ abbrev pub commands_said : Parsed → List Command
 commands_said parsed.Empty = []
 commands_said (parsed.One command) = command ∷ []
 commands_said (parsed.Calc kind) = commands.Begin kind ∷ commands.Settle ∷ []
+
+-- the commands of what a line says: none for a line of no known form
+abbrev pub commands_of_line : Option Parsed → List Command
+commands_of_line None = []
+commands_of_line (Some said) = commands_said said
 
 -- what is written for what a line says: the lines of the replies to its commands; `bad later` for a line of no known form
 abbrev pub said_reply : State → Option Parsed → List ℕ
@@ -46,3 +51,22 @@ state_from s (line ∷ lines) = state_from (said_after s (line_said line)) lines
 -- what the program writes for these words, where it reads these bytes
 abbrev pub output_of : List (List ℕ) → List ℕ → List ℕ
 output_of words bytes = if is_run words then replies_from first_state (lines_of bytes) else usage_line
+
+-- ---- where no more than so many commands are answered
+-- how many commands these lines say
+abbrev pub commands_in : List (List ℕ) → ℕ
+commands_in [] = 0
+commands_in (line ∷ lines) = length (commands_of_line (line_said line)) + commands_in lines
+
+-- what is written for the first so many commands of what a line says
+abbrev pub replies_to_first : ℕ → State → Option Parsed → List ℕ
+replies_to_first room s said = flat_map reply_text (replies_to_all program_terms s (take room (commands_of_line said)))
+
+-- what is written for these lines where so many commands are answered, and none behind them: up to the first command
+-- that isn't answered
+abbrev pub replies_within : ℕ → State → List (List ℕ) → List ℕ
+replies_within room s [] = []
+replies_within room s (line ∷ lines) =
+    if nat_le (length (commands_of_line (line_said line))) room
+    then said_reply s (line_said line) ++ replies_within (room - length (commands_of_line (line_said line))) (said_after s (line_said line)) lines
+    else replies_to_first room s (line_said line)

@@ -11,3 +11,4 @@ exit_code statuses.ReadFault = 3
 exit_code statuses.WriteFault = 4
 exit_code statuses.Memory = 5
 exit_code statuses.InputLimit = 6
+exit_code statuses.SessionFull = 7

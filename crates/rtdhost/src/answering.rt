@@ -1,95 +1,126 @@
 //! Acts on the lines of a script and appends their replies.
 
-ghost use Rattle.std.specs.Prelude.{◌≡◌, ◌++◌, ◌+◌, ◌^◌, ◌<◌, ◌≤◌, [], OnOk, OnErr, None, Some, take, vec_len};
-ghost use Rattle.rtdhost.specs.Engine.{Stands};
-ghost use Rattle.rtdhost.specs.EngineState.{IsDirty, IsTaken};
-ghost use Rattle.rtdhost.specs.Output.{program_terms, said_reply, said_after};
+ghost use Rattle.std.specs.Prelude.{◌≡◌, ◌++◌, ◌+◌, ◌==◌, [], IfErr, OnOk, None, Some, length};
+ghost use Rattle.host_core.specs.HostState.{IsDeskCommand};
+ghost use Rattle.rtdhost.specs.Desk.{IsRefused, Stands};
+ghost use Rattle.rtdhost.specs.Output.{commands_of_line, program_terms, said_reply, said_after};
 ghost use Rattle.sheet_print.specs.Replies.{reply_text};
 ghost use Rattle.session_script.specs.Script.{line_said};
 ghost use Rattle.workbook.specs.State.{State};
 ghost use Rattle.workbook.specs.Step.{reply_to, state_after};
 
-use super::engine::Engine;
+use addin_types::SampleAddIns;
 use cell_values::Memory;
+use host_core::{ActFault, PlainDesk};
 use session_script::{BadLine, Parsed, read_line};
 use sheet_print::{bad_text, reply_text};
 use std::alloc::Global;
 use workbook::{BeginKind, Command};
 
-/// Acts on a line without its end and appends what it is answered with. A refusal leaves `out` as it was.
+/// The most commands that are answered.
+pub const MAX_COMMANDS: usize = 1_000_000;
+
+/// Why a line isn't answered.
+#[derive(Clone, Copy, Debug, PartialEq, Eq)]
+pub enum Refusal {
+    /// A command came after as many were answered as may be.
+    Full,
+    /// Memory ran out.
+    Memory,
+}
+
+impl From<Memory> for Refusal {
+    ghost use Rattle.std.specs.Prelude.{◌≡◌};
+    ghost use Rattle.rtdhost.specs.declared.answering.Refusal.TheVariants as refusals;
+
+    ghost from_gives = { λ _ refusal. refusal ≡ refusals.Memory };
+
+    fn from(_error: Memory) -> Refusal {
+        Refusal::Memory
+    }
+}
+
+/// Acts on a line without its end and appends what it is answered with. At the last command it appends the replies to
+/// those before.
 pub fn answer(
     alloc: Global,
-    engine: &mut Engine,
+    desk: &mut PlainDesk<SampleAddIns>,
     line: &[u8],
     out: &mut Vec<u8>,
-) -> Result<(), Memory>
-    requires { engine.old.round + 2 < 2 ^ 64 }
-    ensures step { (s : State) → Stands engine.old s → OnOk result
+) -> Result<(), Refusal>
+    ensures step { (s : State) → Stands desk.old s → OnOk result
         ((out.new.items ≡ out.old.items ++ said_reply s (line_said line.now))
-        × Stands engine.new (said_after s (line_said line.now))) }
-    ensures err { OnErr result (out.new.items ≡ out.old.items) }
-    ensures round { OnOk result (engine.new.round ≤ engine.old.round + 2) }
+        × Stands desk.new (said_after s (line_said line.now))) }
+    ensures count { OnOk result (length desk.new.history
+        ≡ length desk.old.history + length (commands_of_line (line_said line.now))) }
+    ensures refused { (s : State) → Stands desk.old s → IfErr result
+        (IsRefused desk.old s (line_said line.now) out.old.items out.new.items) }
 {
     match read_line(alloc, line) {
         Ok(Parsed::Empty) => Ok(()),
-        Ok(Parsed::One(command)) => act(engine, command, out),
-        Ok(Parsed::Calc(kind)) => calculate(engine, kind, out),
-        Err(BadLine::Memory) => Err(Memory),
+        Ok(Parsed::One(command)) => act(desk, command, out),
+        Ok(Parsed::Calc(kind)) => calculate(desk, kind, out),
+        Err(BadLine::Memory) => Err(Refusal::Memory),
         Err(BadLine::Later) => answer_bad(out),
     }
 }
 
-/// Appends the reply to a line that is not of the known forms. A refusal leaves `out` as it was.
-pub fn answer_bad(out: &mut Vec<u8>) -> Result<(), Memory>
+/// Appends the reply to a line that is not of the known forms.
+pub fn answer_bad(out: &mut Vec<u8>) -> Result<(), Refusal>
     ensures ok { (s : State) → OnOk result (out.new.items ≡ out.old.items ++ said_reply s None) }
-    ensures err { OnErr result (out.new.items ≡ out.old.items) }
+    ensures err { IfErr result (λ refusal. refusal ≡ Refusal.Memory) }
 {
-    bad_text("later", out)
+    bad_text("later", out)?;
+    Ok(())
 }
 
 /// Acts on a command and appends the reply's lines.
-fn act(engine: &mut Engine, command: Command, out: &mut Vec<u8>) -> Result<(), Memory>
-    requires taken { IsTaken command }
-    requires round { engine.old.round + 1 < 2 ^ 64 }
-    ensures step { (s : State) → Stands engine.old s → OnOk result
+fn act(
+    desk: &mut PlainDesk<SampleAddIns>,
+    command: Command,
+    out: &mut Vec<u8>,
+) -> Result<(), Refusal>
+    requires taken { IsDeskCommand command }
+    ensures step { (s : State) → Stands desk.old s → OnOk result
         ((out.new.items ≡ out.old.items ++ reply_text (reply_to program_terms [] s command))
-        × Stands engine.new (state_after program_terms [] s command)) }
-    ensures err { OnErr result (out.new.items ≡ out.old.items) }
-    ensures kept { take (vec_len out.old) out.new.items ≡ out.old.items }
-    ensures round { OnOk result (engine.new.round ≤ engine.old.round + 1) }
+        × Stands desk.new (state_after program_terms [] s command)) }
+    ensures count { OnOk result (length desk.new.history ≡ length desk.old.history + 1) }
+    ensures full { (s : State) → Stands desk.old s → result ≡ Err Refusal.Full
+        → (length desk.old.history ≡ program_terms.limit) × (out.new.items ≡ out.old.items) }
 {
-    let reply = engine.act(command)?;
-    reply_text(&reply, out)
-}
-
-/// Begins a recalculation and settles it.
-fn calculate(engine: &mut Engine, kind: BeginKind, out: &mut Vec<u8>) -> Result<(), Memory>
-    requires dirty { IsDirty kind }
-    requires round { engine.old.round + 2 < 2 ^ 64 }
-    ensures step { (s : State) → Stands engine.old s → OnOk result
-        ((out.new.items ≡ out.old.items ++ said_reply s (Some (Parsed.Calc kind)))
-        × Stands engine.new (said_after s (Some (Parsed.Calc kind)))) }
-    ensures err { OnErr result (out.new.items ≡ out.old.items) }
-    ensures round { OnOk result (engine.new.round ≤ engine.old.round + 2) }
-{
-    let start = out.len();
-    let answered = begin_and_settle(engine, kind, out);
-    if answered.is_err() {
-        out.truncate(start);
+    if is_full(desk) {
+        return Err(Refusal::Full);
     }
-    answered
+    match desk.act(command) {
+        Ok(reply) => {
+            reply_text(&reply, out)?;
+            Ok(())
+        }
+        Err(ActFault::Full(_)) => Err(Refusal::Full),
+        Err(ActFault::Memory(_)) => Err(Refusal::Memory),
+    }
 }
 
-/// The two commands of a calculation; a refusal may leave the first reply.
-fn begin_and_settle(engine: &mut Engine, kind: BeginKind, out: &mut Vec<u8>) -> Result<(), Memory>
-    requires dirty { IsDirty kind }
-    requires round { engine.old.round + 2 < 2 ^ 64 }
-    ensures step { (s : State) → Stands engine.old s → OnOk result
-        ((out.new.items ≡ out.old.items ++ said_reply s (Some (Parsed.Calc kind)))
-        × Stands engine.new (said_after s (Some (Parsed.Calc kind)))) }
-    ensures kept { take (vec_len out.old) out.new.items ≡ out.old.items }
-    ensures round { OnOk result (engine.new.round ≤ engine.old.round + 2) }
+/// Whether as many commands are answered as may be.
+fn is_full(desk: &PlainDesk<SampleAddIns>) -> bool
+    ensures { result ≡ (length desk.now.history == program_terms.limit) }
 {
-    act(engine, Command::Begin(kind), out)?;
-    act(engine, Command::Settle, out)
+    desk.history().len() == MAX_COMMANDS
+}
+
+/// Begins a recalculation and settles it. Where the begin is the last command, its reply is appended.
+fn calculate(
+    desk: &mut PlainDesk<SampleAddIns>,
+    kind: BeginKind,
+    out: &mut Vec<u8>,
+) -> Result<(), Refusal>
+    ensures step { (s : State) → Stands desk.old s → OnOk result
+        ((out.new.items ≡ out.old.items ++ said_reply s (Some (Parsed.Calc kind)))
+        × Stands desk.new (said_after s (Some (Parsed.Calc kind)))) }
+    ensures count { OnOk result (length desk.new.history ≡ length desk.old.history + 2) }
+    ensures refused { (s : State) → Stands desk.old s → IfErr result
+        (IsRefused desk.old s (Some (Parsed.Calc kind)) out.old.items out.new.items) }
+{
+    act(desk, Command::Begin(kind), out)?;
+    act(desk, Command::Settle, out)
 }

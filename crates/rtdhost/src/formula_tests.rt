@@ -39,7 +39,7 @@ fn results_stay_whole_and_within_the_magnitude(rt: HostRuntime) -> Result<(), Fa
 }
 
 #[test]
-fn operators_go_by_their_levels(rt: HostRuntime) -> Result<(), Fail> {
+fn formulas_show_their_values(rt: HostRuntime) -> Result<(), Fail> {
     let table = [
         ("=1+2*3", "7"),
         ("=(1+2)*3", "9"),
@@ -53,16 +53,6 @@ fn operators_go_by_their_levels(rt: HostRuntime) -> Result<(), Fail> {
         ("=2>\"a\"", "FALSE"),
         ("=#ref!", "#REF!"),
         ("=#REF!+1/0", "#REF!"),
-    ];
-    for (formula, word) in table {
-        shows(&rt, rt.alloc(), formula, word)?;
-    }
-    Ok(())
-}
-
-#[test]
-fn references_have_their_cells_values(rt: HostRuntime) -> Result<(), Fail> {
-    let table = [
         ("=B2", "\"x\""),
         ("=+$b$3", "TRUE"),
         ("=B4", "0"),
@@ -72,16 +62,6 @@ fn references_have_their_cells_values(rt: HostRuntime) -> Result<(), Fail> {
         ("=ISBLANK(B2)", "FALSE"),
         ("=Sheet1!B5+Sheet2!B5", "5"),
         ("=B2+1", "#VALUE!"),
-    ];
-    for (formula, word) in table {
-        shows(&rt, rt.alloc(), formula, word)?;
-    }
-    Ok(())
-}
-
-#[test]
-fn areas_are_taken_by_rows(rt: HostRuntime) -> Result<(), Fail> {
-    let table = [
         ("=SUM(B1:B5)", "6"),
         ("=sum( B5:B1 , 2 )", "8"),
         ("=SUM(Sheet2!B1:B5)", "0"),
@@ -94,16 +74,6 @@ fn areas_are_taken_by_rows(rt: HostRuntime) -> Result<(), Fail> {
         ("=INDEX(B1:B5,6,1)", "#REF!"),
         ("=B1:B5", "#VALUE!"),
         ("=LEN(B1:B1)", "#VALUE!"),
-    ];
-    for (formula, word) in table {
-        shows(&rt, rt.alloc(), formula, word)?;
-    }
-    Ok(())
-}
-
-#[test]
-fn functions_evaluate_what_they_need(rt: HostRuntime) -> Result<(), Fail> {
-    let table = [
         ("=IF(B1<B5,\"low\",1/0)", "\"low\""),
         ("=IF(FALSE,1/0)", "FALSE"),
         ("=CHOOSE(2,1/0,\"b\",1/0)", "\"b\""),
@@ -118,16 +88,6 @@ fn functions_evaluate_what_they_need(rt: HostRuntime) -> Result<(), Fail> {
         ("=FOO(1)", "#NAME?"),
         ("=ABS()", "#VALUE!"),
         ("=DOUBLE(1)", "#NAME?"),
-    ];
-    for (formula, word) in table {
-        shows(&rt, rt.alloc(), formula, word)?;
-    }
-    Ok(())
-}
-
-#[test]
-fn each_topic_is_not_available(rt: HostRuntime) -> Result<(), Fail> {
-    let table = [
         ("=RTD(\"f\",\"\",\"a\")&RTD(\"f\",\"\",\"b\")", "#N/A"),
         (
             "=IFNA(RTD(\"f\",\"\",\"a\"),IFNA(RTD(\"f\",\"\",\"b\"),7))",

@@ -48,3 +48,20 @@ fn at_most_100000_cells_have_a_formula(rt: HostRuntime) -> Result<(), Fail> {
         "full formulas\nok\nok\n",
     )
 }
+
+#[test]
+fn at_most_1000000_commands_are_answered(rt: HostRuntime) -> Result<(), Fail> {
+    let mut script = Vec::new(rt.alloc());
+    let mut want = Vec::new(rt.alloc());
+    for _ in 1..1_000_000u32 {
+        script.extend_from_slice(b"print\n")?;
+        want.extend_from_slice(b"end\n")?;
+    }
+    script.extend_from_slice(b"calc\nprint\n")?;
+    want.extend_from_slice(b"begun 1\n")?;
+    let mut src = MemorySource::new(script, 65_536, Vec::new(rt.alloc()));
+    let mut out = MemorySink::new(rt.alloc(), 100, Vec::new(rt.alloc()));
+    assert_eq!(rt; run(rt.alloc(), &mut src, &mut out)?, Status::SessionFull);
+    assert!(rt; out.written() == want.as_slice());
+    Ok(())
+}

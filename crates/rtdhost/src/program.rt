@@ -5,8 +5,8 @@ ghost use Rattle.std.specs.Prelude.{◌≡◌, ◌≢◌, ◌⊎◌, ◌<◌, �
 ghost use Rattle.workbook.specs.State.{first_state};
 ghost use Rattle.host_io.specs.declared.limits.TheConstants.{MAX_INPUT};
 ghost use Rattle.host_io.specs.Count.{Rose};
-ghost use Rattle.host_io.specs.Lines.{whole_lines};
-ghost use Rattle.rtdhost.specs.Output.{output_of, replies_from};
+ghost use Rattle.host_io.specs.Lines.{lines_of, whole_lines};
+ghost use Rattle.rtdhost.specs.Output.{commands_in, output_of, program_terms, replies_from, replies_within};
 ghost use Rattle.rtdhost.specs.Endings.{HasEnded, IsFaultCounted, status_of};
 ghost use Rattle.rtdhost.specs.Program.{exit_code};
 ghost use Rattle.rtdhost.specs.Session.{HasFinished, HasStopped, IsCaused};
@@ -33,10 +33,12 @@ pub enum Status {
     Memory,
     /// A byte came after 67,108,864 bytes were taken.
     InputLimit,
+    /// A command came after 1,000,000 were answered.
+    SessionFull,
 }
 
 impl Status {
-    /// The exit status of the process, from 0 to 6.
+    /// The exit status of the process, from 0 to 7.
     pub fn code(self) -> u8
         ensures { result ≡ exit_code self }
     {
@@ -47,6 +49,7 @@ impl Status {
             Status::WriteFault => 4,
             Status::Memory => 5,
             Status::InputLimit => 6,
+            Status::SessionFull => 7,
         }
     }
 }
@@ -109,6 +112,17 @@ pub fn rtd_host_plain<I: Source, O: Sink>(
     ensures within { (input : List ℕ) → I.remaining src.old ≡ Some input → result ≡ Status.Ok
         → length input ≤ MAX_INPUT }
 
+    // A session is full exactly where the lines say more commands than are answered. The replies to those are written.
+    ensures full { (input : List ℕ) → I.remaining src.old ≡ Some input
+        → result ≡ Status.SessionFull
+        → program_terms.limit < commands_in (lines_of input) }
+    ensures full_answered { (input : List ℕ) → I.remaining src.old ≡ Some input
+        → result ≡ Status.SessionFull
+        → Appends (O.written out.old)
+        (replies_within program_terms.limit first_state (lines_of input)) (O.written out.new) }
+    ensures within_commands { (input : List ℕ) → I.remaining src.old ≡ Some input
+        → result ≡ Status.Ok → commands_in (lines_of input) ≤ program_terms.limit }
+
     // With every status a prefix of the defined output was written, and nothing else.
     ensures prefix { (input : List ℕ) → I.remaining src.old ≡ Some input
         → AppendsPrefix (O.written out.old) (output_of (texts words.now) input)
@@ -117,6 +131,7 @@ pub fn rtd_host_plain<I: Source, O: Sink>(
     // With no cause for another status it is Ok, or Memory, which alone has none.
     ensures complete { (input : List ℕ) → I.remaining src.old ≡ Some input
         → is_run (texts words.now) ≡ true → length input ≤ MAX_INPUT
+        → commands_in (lines_of input) ≤ program_terms.limit
         → (Rose (I.faults src.old) (I.faults src.new) → ⊥)
         → (Rose (O.faults out.old) (O.faults out.new) → ⊥)
         → (result ≡ Status.Ok) ⊎ (result ≡ Status.Memory) }
@@ -165,7 +180,10 @@ fn run<I: Source, O: Sink>(alloc: Global, src: &mut I, out: &mut O) -> Result<()
         (O.faults out.old) (O.faults out.new)) }
     ensures writes { O.faults out.old ≤ O.faults out.new }
 {
-    Session::new(alloc).read_all(src, out)
+    match Session::open(alloc) {
+        Ok(mut session) => session.read_all(src, out),
+        Err(_) => Err(RunFault::Memory),
+    }
 }
 
 /// Writes the usage.
@@ -204,5 +222,6 @@ fn status_at(stop: RunFault) -> Status
         RunFault::Write => Status::WriteFault,
         RunFault::Limit => Status::InputLimit,
         RunFault::Memory => Status::Memory,
+        RunFault::Full => Status::SessionFull,
     }
 }
