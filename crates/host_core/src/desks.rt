@@ -1,4 +1,4 @@
-ghost use Rattle.std.specs.Prelude.{◌≡◌, [], None, IfOk, OnOk, IfErr};
+ghost use Rattle.std.specs.Prelude.{◌≡◌, ◌<◌, [], None, length, IfOk, OnOk, IfErr};
 
 use super::hosts::{ActFault, Host};
 use addin_types::AddIns;
@@ -42,6 +42,7 @@ impl<F: AddIns + Drop> PlainDesk<F> {
         ensures reply { IfOk result (λ reply. reply
             ≡ reply_to (terms_of F.answer self.old) [] (state_now F.answer self.old) command) }
         ensures entry { OnOk result (self.new ≡ with_entry self.old 0 command) }
+        ensures room { OnOk result (length self.old.history < self.old.limit) }
         ensures fault { IfErr result (λ fault. IsActFault self.old command fault
             × (self.new ≡ self.old)) }
     {

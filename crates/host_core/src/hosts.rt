@@ -81,6 +81,7 @@ impl<F: AddIns + Drop> Host<F> {
         ensures reply { IfOk result (λ reply. reply
             ≡ reply_to (terms_of F.answer self.old) [] (state_now F.answer self.old) command) }
         ensures entry { OnOk result (self.new ≡ with_entry self.old actor command) }
+        ensures room { OnOk result (length self.old.history < self.old.limit) }
         ensures fault { IfErr result (λ fault. IsActFault self.old command fault
             × (self.new ≡ self.old)) }
     {
@@ -92,6 +93,7 @@ impl<F: AddIns + Drop> Host<F> {
         ensures reply { IfOk result (λ reply. reply ≡ reply_to (terms_of F.answer self.old) []
             (state_now F.answer self.old) commands.Settle) }
         ensures entry { OnOk result (self.new ≡ with_entry self.old actor commands.Settle) }
+        ensures room { OnOk result (length self.old.history < self.old.limit) }
         ensures fault { IfErr result (λ fault. IsActFault self.old commands.Settle fault
             × (self.new ≡ self.old)) }
     {
@@ -104,6 +106,7 @@ impl<F: AddIns + Drop> Host<F> {
         ensures reply { IfOk result (λ reply. reply
             ≡ reply_to (terms_of F.answer self.old) [] (state_now F.answer self.old) command) }
         ensures entry { OnOk result (self.new ≡ with_entry self.old actor command) }
+        ensures room { OnOk result (length self.old.history < self.old.limit) }
         ensures fault { IfErr result (λ fault. IsActFault self.old command fault
             × (self.new ≡ self.old)) }
     {

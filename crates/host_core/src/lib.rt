@@ -3,9 +3,9 @@
 
 mod desks;
 mod hosts;
-mod round_books;
 #[cfg(test)]
 mod random_tests;
+mod round_books;
 #[cfg(test)]
 mod tests;
 

@@ -1,6 +1,5 @@
 -- What one more command does to a desk that stands for a state.
-use Rattle.std.proofs.Common.{◌≡◌, ◌==◌, false, List, [], ◌∷◌, ◌++◌, length, refl, ap, ◌∙◌, length-append, arith}
-use Rattle.std.proofs.lemmas.Bool.{eqb-false}
+use Rattle.std.proofs.Common.{◌≡◌, ◌<◌, List, [], ◌∷◌, ◌++◌, length, refl, ap, ◌∙◌, length-append, arith}
 use Rattle.addin_types.specs.Samples.{sample_answer}
 use Rattle.workbook.specs.declared.commands.Command.{Command}
 use Rattle.workbook.specs.declared.history.Entry.{Entry}
@@ -18,13 +17,13 @@ history_more terms s [] entry = refl
 history_more terms s (first ∷ history) entry = history_more terms (state_after terms [] s first.command) history entry
 
 -- a command that a desk with room answered
-pub desk_acted : (desk : HostState) (s : State) (command : Command) (reply : Reply) → Stands desk s → reply ≡ reply_to (terms_of sample_answer desk) [] (state_now sample_answer desk) command → (length desk.history == program_terms.limit) ≡ false → (reply ≡ reply_to program_terms [] s command) × Stands (with_entry desk 0 command) (state_after program_terms [] s command)
-desk_acted desk s command reply stands answered unfull =
+pub desk_acted : (desk : HostState) (s : State) (command : Command) (reply : Reply) → Stands desk s → reply ≡ reply_to (terms_of sample_answer desk) [] (state_now sample_answer desk) command → length desk.history < desk.limit → (reply ≡ reply_to program_terms [] s command) × Stands (with_entry desk 0 command) (state_after program_terms [] s command)
+desk_acted desk s command reply stands answered room =
     let entry : Entry = record { actor = 0; command = command } in (
       answered ∙ ap (λ terms. reply_to terms [] (state_of terms desk.history) command) stands.terms ∙ ap (λ x. reply_to program_terms [] x command) stands.state,
       record {
         terms = stands.terms;
-        within = omega (arith, stands.within, length-append desk.history (entry ∷ []), eqb-false (length desk.history) program_terms.limit unfull);
+        within = omega (arith, room, ap (λ (terms : HostTerms). terms.limit) stands.terms, length-append desk.history (entry ∷ []));
         state = history_more program_terms first_state desk.history entry ∙ ap (λ x. state_after program_terms [] x command) stands.state;
       },
     )

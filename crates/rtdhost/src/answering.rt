@@ -88,9 +88,6 @@ fn act(
     ensures full { (s : State) → Stands desk.old s → result ≡ Err Refusal.Full
         → (length desk.old.history ≡ program_terms.limit) × (out.new.items ≡ out.old.items) }
 {
-    if is_full(desk) {
-        return Err(Refusal::Full);
-    }
     match desk.act(command) {
         Ok(reply) => {
             reply_text(&reply, out)?;
@@ -99,13 +96,6 @@ fn act(
         Err(ActFault::Full(_)) => Err(Refusal::Full),
         Err(ActFault::Memory(_)) => Err(Refusal::Memory),
     }
-}
-
-/// Whether as many commands are answered as may be.
-fn is_full(desk: &PlainDesk<SampleAddIns>) -> bool
-    ensures { result ≡ (length desk.now.history == program_terms.limit) }
-{
-    desk.history().len() == MAX_COMMANDS
 }
 
 /// Begins a recalculation and settles it. Where the begin is the last command, its reply is appended.

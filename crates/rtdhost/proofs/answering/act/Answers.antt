@@ -8,7 +8,7 @@ use Rattle.rtdhost.proofs.answering.act.Goals as goal
 
 pub returns-in-Ok-clause-step : goal.returns-in-Ok-clause-step
 returns-in-Ok-clause-step c s stands =
-    let done = desk_acted c.args.desk.now s c.args.command c.in-Ok.reply stands c.in-Ok.ensures.reply (sym c.is_full.ensures ∙ c.if-is_full.false) in (
+    let done = desk_acted c.args.desk.now s c.args.command c.in-Ok.reply stands c.in-Ok.ensures.reply c.in-Ok.ensures.room in (
       c.in_ok-reply_text-in-Ok.ensures.ok ∙ ap (λ reply. c.args.out.now.items ++ reply_text reply) done.0,
       subst (λ desk. Stands desk (state_after program_terms [] s c.args.command)) (sym c.in-Ok.ensures.entry) done.1,
     )
