@@ -6,6 +6,8 @@ mod beginning;
 mod calc_books;
 mod edits;
 mod settling;
+#[cfg(test)]
+mod tests;
 
 pub use calc_books::CalcBook;
 pub use cell_values::Memory;
