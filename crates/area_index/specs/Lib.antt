@@ -1,0 +1,4 @@
+-- What the crate's own functions keep.
+pub mod Pairs
+pub mod Shapes
+pub mod Views
