@@ -1,6 +1,7 @@
 -- Trees of pairs, and what is done to them.
-use Rattle.std.specs.Prelude.{ℕ, ◌+◌, max, nat_lt, nat_le, if◌then◌else◌, List, [], ◌∷◌, ◌++◌}
+use Rattle.std.specs.Prelude.{◌≡◌, ℕ, ◌+◌, ◌≤◌, max, nat_lt, nat_le, if◌then◌else◌, List, [], ◌∷◌, ◌++◌}
 use Rattle.std.specs.Ordering.{match_ordering}
+use Rattle.std.specs.List.Sorted.{IsStrictlySortedBy}
 use Rattle.area_index.specs.declared.pairs.Pair.{Pair}
 use Rattle.area_index.specs.declared.trees.TheConstants.{LEVELS}
 use Rattle.area_index.specs.Pairs.{pair_cmp}
@@ -91,3 +92,16 @@ removed empty p = empty
 removed (fork l q h b r) p =
     match_ordering (pair_cmp p q)
     (balanced (removed l p) q r) (joined l r) (balanced l q (removed r p))
+
+-- the sides' heights differ by at most one at each pair, and the height and the bottom row that stand there are right
+abbrev pub IsLevel : Shape → Type 0
+IsLevel empty = Unit {0}
+IsLevel (fork l p h b r) =
+    IsLevel l × IsLevel r
+    × (h ≡ max (height_of l) (height_of r) + 1)
+    × (height_of l ≤ height_of r + 1) × (height_of r ≤ height_of l + 1)
+    × (b ≡ max p.area.bottom (max (bottom_of l) (bottom_of r)))
+
+-- the pairs rise
+abbrev pub IsOrdered : Shape → Type 0
+IsOrdered t = IsStrictlySortedBy pair_cmp (in_order t)

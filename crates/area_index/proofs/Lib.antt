@@ -1,0 +1,4 @@
+-- Laws of the trees.
+mod Ordered
+mod InOrder
+mod Levels
