@@ -2,3 +2,4 @@
 mod Ordered
 mod InOrder
 mod Levels
+mod Found

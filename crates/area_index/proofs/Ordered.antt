@@ -10,13 +10,17 @@ use Rattle.std.specs.List.Sorted.{IsStrictlySortedBy}
 use Rattle.std.specs.BTreeSet.{insert_key}
 use Rattle.std.proofs.lemmas.List.Elements.{filter-append}
 
-all_map : {K : Type 0} (P Q : K → Type 0) (xs : List K) → ((y : K) → P y → Q y) → AllByRecursion P xs → AllByRecursion Q xs
+pub all_map : {K : Type 0} (P Q : K → Type 0) (xs : List K) → ((y : K) → P y → Q y) → AllByRecursion P xs → AllByRecursion Q xs
 all_map P Q [] f a = tt
 all_map P Q (x ∷ xs) f a = (f x a.0, all_map P Q xs f a.1)
 
 all_front : {K : Type 0} (P : K → Type 0) (l m : List K) → AllByRecursion P (l ++ m) → AllByRecursion P l
 all_front P [] m a = tt
 all_front P (x ∷ l) m a = (a.0, all_front P l m a.1)
+
+pub all_join : {K : Type 0} (P : K → Type 0) (l m : List K) → AllByRecursion P l → AllByRecursion P m → AllByRecursion P (l ++ m)
+all_join P [] m a b = b
+all_join P (x ∷ l) m a b = (a.0, all_join P l m a.1 b)
 
 all_middle : {K : Type 0} (P : K → Type 0) (l : List K) (x : K) (r : List K) → AllByRecursion P (l ++ x ∷ r) → P x
 all_middle P [] x r a = a.0

@@ -2,3 +2,4 @@
 pub mod Pairs
 pub mod Shapes
 pub mod Views
+pub mod Walk

@@ -1,10 +1,13 @@
-ghost use Rattle.std.specs.Prelude.{◌≡◌, max};
+ghost use Rattle.std.specs.Prelude.{◌≡◌, ◌+◌, ◌++◌, ◌≤◌, max, OnOk};
 ghost use Rattle.area_index.specs.Shapes.{balanced, bottom_of, empty, first_of, height_of, higher, inserted, joined, lean_left, lean_right, node_of, raised, removed, rest_of};
 ghost use Rattle.area_index.specs.Views.{shape_of};
+ghost use Rattle.area_index.specs.Walk.{found, visits};
 
 use super::pairs::Pair;
+use cell_refs::{Cell, Memory, Steps};
 use std::cmp::Ordering;
 use std::mem;
+use std::sync::ledger::Ledger;
 
 /// A search tree of pairs.
 #[cycle(tree)]
@@ -63,6 +66,37 @@ impl Tree {
                     Ordering::Equal => linked(node, left, right),
                     Ordering::Greater => balance(node, left, right.insert(spare)),
                 }
+            }
+        }
+    }
+
+    /// Appends the readers whose area has a cell. A step is one node looked at, and nothing else reads nodes for it.
+    pub fn visit<L: Ledger>(
+        &self,
+        cell: Cell,
+        steps: &mut Steps<L>,
+        readers: &mut Vec<Cell>,
+    ) -> Result<(), Memory>
+        ensures found { OnOk result (readers.new.items
+            ≡ readers.old.items ++ found (shape_of self.now) cell) }
+        ensures steps { steps.new ≤ steps.old + visits (shape_of self.now) cell.row }
+    {
+        match self {
+            Tree::Leaf => Ok(()),
+            Tree::Fork(node) => {
+                steps.tick();
+                if node.bottom < cell.row {
+                    return Ok(());
+                }
+                node.left.visit(cell, steps, readers)?;
+                if node.pair.area.contains(cell) {
+                    readers.push(node.pair.reader)?;
+                }
+                if cell.row < node.pair.area.top {
+                    return Ok(());
+                }
+                node.right.visit(cell, steps, readers)?;
+                Ok(())
             }
         }
     }
