@@ -3,3 +3,4 @@ mod Ordered
 mod InOrder
 mod Levels
 mod Found
+mod Bounds

@@ -14,7 +14,7 @@ pub all_map : {K : Type 0} (P Q : K → Type 0) (xs : List K) → ((y : K) → P
 all_map P Q [] f a = tt
 all_map P Q (x ∷ xs) f a = (f x a.0, all_map P Q xs f a.1)
 
-all_front : {K : Type 0} (P : K → Type 0) (l m : List K) → AllByRecursion P (l ++ m) → AllByRecursion P l
+pub all_front : {K : Type 0} (P : K → Type 0) (l m : List K) → AllByRecursion P (l ++ m) → AllByRecursion P l
 all_front P [] m a = tt
 all_front P (x ∷ l) m a = (a.0, all_front P l m a.1)
 
@@ -22,9 +22,13 @@ pub all_join : {K : Type 0} (P : K → Type 0) (l m : List K) → AllByRecursion
 all_join P [] m a b = b
 all_join P (x ∷ l) m a b = (a.0, all_join P l m a.1 b)
 
-all_middle : {K : Type 0} (P : K → Type 0) (l : List K) (x : K) (r : List K) → AllByRecursion P (l ++ x ∷ r) → P x
+pub all_middle : {K : Type 0} (P : K → Type 0) (l : List K) (x : K) (r : List K) → AllByRecursion P (l ++ x ∷ r) → P x
 all_middle P [] x r a = a.0
 all_middle P (y ∷ l) x r a = all_middle P l x r a.1
+
+pub all_behind : {K : Type 0} (P : K → Type 0) (l : List K) (x : K) (r : List K) → AllByRecursion P (l ++ x ∷ r) → AllByRecursion P r
+all_behind P [] x r a = a.1
+all_behind P (y ∷ l) x r a = all_behind P l x r a.1
 
 pub sorted_front : {K : Type 0} (R : K → K → Ordering) (l m : List K) → IsStrictlySortedBy R (l ++ m) → IsStrictlySortedBy R l
 unfolding IsStrictlySortedBy
