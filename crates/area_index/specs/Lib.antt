@@ -1,4 +1,5 @@
 -- What the crate's own functions keep.
+pub mod Forests
 pub mod Pairs
 pub mod Shapes
 pub mod Views

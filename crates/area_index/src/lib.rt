@@ -1,6 +1,7 @@
 //! The index of areas: which cells name an area that has a given cell.
 #![tactic(auto)]
 
+mod indexes;
 mod pairs;
 mod trees;
 

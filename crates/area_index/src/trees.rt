@@ -31,6 +31,15 @@ pub struct Node {
 /// The greatest height that stands with a node.
 pub const LEVELS: u64 = 0x4000_0000_0000_0000;
 
+impl Node {
+    /// The pair that stands here.
+    pub fn pair(&self) -> Pair
+        ensures { result ≡ self.now.pair }
+    {
+        self.pair
+    }
+}
+
 impl Tree {
     /// The number of its levels.
     pub fn height(&self) -> u64

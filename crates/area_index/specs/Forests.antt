@@ -1,0 +1,71 @@
+-- The trees of the sheets.
+use Rattle.std.specs.Prelude.{◌≡◌, ◌≢◌, ◌+◌, ◌<◌, ◌≤◌, ℕ, Bool, true, List, length, slice_index_or}
+use Rattle.std.specs.List.{AllByRecursion, list_any}
+use Rattle.std.specs.List.Sorted.{IsStrictlySortedBy}
+use Rattle.cell_refs.specs.declared.areas.Area.{Area}
+use Rattle.cell_refs.specs.declared.grid.Cell.{Cell}
+use Rattle.cell_refs.specs.Area.{area_has}
+use Rattle.cell_refs.specs.Cell.{cell_cmp, is_among}
+use Rattle.area_index.specs.declared.pairs.Pair.{Pair}
+use Rattle.area_index.specs.declared.trees.Tree.{Tree}
+use Rattle.area_index.specs.declared.trees.Tree.TheVariants.{Leaf}
+use Rattle.area_index.specs.declared.trees.TheConstants.{LEVELS}
+use Rattle.area_index.specs.Pairs.{same_pair}
+use Rattle.area_index.specs.Shapes.{Shape, in_order, height_of, IsLevel, IsOrdered}
+use Rattle.area_index.specs.Views.{shape_of}
+
+-- the trees by the numbers of their sheets, and how often a pair was put in
+pub record Forest : Type 0 where
+  pub trees : List Tree
+  pub links : ℕ
+
+-- the tree at a number; the empty one where none stands there
+abbrev pub tree_in : List Tree → ℕ → Shape
+tree_in trees sheet = shape_of (slice_index_or trees sheet Leaf)
+
+-- the pairs of a sheet
+abbrev pub pairs_on : Forest → ℕ → List Pair
+pairs_on forest sheet = in_order (tree_in forest.trees sheet)
+
+-- whether a pair is in the index
+unfoldable pub has_pair : Forest → Pair → Bool
+has_pair forest p = list_any (same_pair p) (pairs_on forest p.area.sheet)
+
+-- the pair of a reader and an area
+abbrev pub pair_at : Cell → Area → Pair
+pair_at reader area = record { area = area; reader = reader }
+
+-- whether a pair is that of the reader and one of the areas
+abbrev pub names : Cell → List Area → Pair → Bool
+names reader areas p = list_any (λ area. same_pair p (pair_at reader area)) areas
+
+-- what holds of the tree of a sheet
+pub record IsSheetTree (sheet links : ℕ) (t : Shape) : Type 0 where
+  pub level : IsLevel t
+  pub ordered : IsOrdered t
+  pub own : AllByRecursion (λ p. p.area.sheet ≡ sheet) (in_order t)
+  pub within : height_of t ≤ links
+
+-- what holds of the trees
+pub record IsForest (forest : Forest) : Type 0 where
+  pub room : forest.links < LEVELS
+  pub trees : (sheet : ℕ) → IsSheetTree sheet forest.links (tree_in forest.trees sheet)
+
+-- the tree at one number became that one, and the others stay
+pub record ChangesAt (old new : List Tree) (sheet : ℕ) (t : Shape) : Type 0 where
+  pub here : tree_in new sheet ≡ t
+  pub others : (other : ℕ) → other ≢ sheet → tree_in new other ≡ tree_in old other
+  pub as_many : length new ≡ length old
+
+-- there is a tree for each sheet, and room for as many pairs
+pub record IsReady (forest : Forest) (count : ℕ) : Type 0 where
+  pub sheets : 256 ≤ length forest.trees
+  pub room : forest.links + count < LEVELS
+
+-- these are the readers of the pairs whose area has the cell, in cell order, each once
+pub record AreReadersAt (forest : Forest) (cell : Cell) (readers : List Cell) : Type 0 where
+  pub sorted : IsStrictlySortedBy cell_cmp readers
+  pub each : (reader : Cell) → is_among readers reader ≡ true
+    → (area : Area) × (has_pair forest (pair_at reader area) ≡ true) × (area_has area cell ≡ true)
+  pub all : (reader : Cell) (area : Area) → has_pair forest (pair_at reader area) ≡ true
+    → area_has area cell ≡ true → is_among readers reader ≡ true
