@@ -4,3 +4,4 @@ mod InOrder
 mod Levels
 mod Found
 mod Bounds
+mod Forests

@@ -80,6 +80,11 @@ pub drops : {K : Type 0} (p : K → Bool) (xs : List K) → AllByRecursion (λ y
 drops p [] a = refl
 drops p (x ∷ xs) a = let e : p x ≡ false = a.0 in rw e (drops p xs a.1)
 
+-- what holds of all keys holds of those that are kept
+pub all_leave : {K : Type 0} (P : K → Type 0) (p : K → Bool) (xs : List K) → AllByRecursion P xs → AllByRecursion P (filter p xs)
+all_leave P p [] a = tt
+all_leave P p (x ∷ xs) a = elim (p x) as (λ w. AllByRecursion P (cond w (x ∷ filter p xs) (filter p xs))) [ true ↦ (a.0, all_leave P p xs a.1) | false ↦ all_leave P p xs a.1 ]
+
 -- whether a key is another one than k
 abbrev pub differs : {K : Type 0} → (K → K → Ordering) → K → K → Bool
 differs R k y = not (is_eq (R k y))
@@ -132,7 +137,7 @@ module _ {K : Type 0} {R : K → K → Ordering} (o : IsTotalOrder R) where
       ∙ ap (λ b. l ++ cond b (x ∷ filter (differs R k) r) (filter (differs R k) r)) (ap (λ q. not (is_eq q)) h)
       ∙ ap (λ z. l ++ z) (keeps (differs R k) r (all_map _ (λ y. differs R k y ≡ true) r (λ y g. differs_less k y (before_same k x y h g)) (back_above R l x r s)))
 
-  all_insert : (P : K → Type 0) (xs : List K) (k : K) → AllByRecursion P xs → P k → AllByRecursion P (insert_key R xs k)
+  pub all_insert : (P : K → Type 0) (xs : List K) (k : K) → AllByRecursion P xs → P k → AllByRecursion P (insert_key R xs k)
   all_insert P [] k a p = (p, tt)
   all_insert P (x ∷ xs) k a p =
       elim (R k x) as (λ q. AllByRecursion P (match_ordering q (k ∷ x ∷ xs) (x ∷ xs) (x ∷ insert_key R xs k))) [
