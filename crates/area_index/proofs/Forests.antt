@@ -20,7 +20,7 @@ use Rattle.area_index.specs.declared.pairs.Pair.{Pair}
 use Rattle.area_index.specs.declared.trees.Tree.{Tree}
 use Rattle.area_index.specs.declared.trees.TheConstants.{LEVELS}
 use Rattle.area_index.specs.Pairs.{pair_cmp, pairs_total, same_pair}
-use Rattle.area_index.specs.Shapes.{Shape, in_order, height_of, inserted, removed, IsLevel, IsOrdered}
+use Rattle.area_index.specs.Shapes.{Shape, empty, in_order, height_of, inserted, removed, IsLevel, IsOrdered}
 use Rattle.area_index.specs.Forests.{Forest, tree_in, pairs_on, has_pair, IsSheetTree, IsForest, ChangesAt}
 use Rattle.area_index.proofs.Ordered.{all_insert, all_leave, sorted_insert, any_insert, differs}
 use Rattle.area_index.proofs.InOrder.{in_order-inserted, in_order-removed}
@@ -124,3 +124,26 @@ has-removed old new links p f c q =
     by_sheet (list_any (same_pair q) (in_order (tree_in new q.area.sheet)) ≡ (not (same_pair q p) && list_any (same_pair q) (in_order (tree_in old q.area.sheet)))) q.area.sheet p.area.sheet
     (λ e. subst (λ s. list_any (same_pair q) (in_order (tree_in new s)) ≡ (not (same_pair q p) && list_any (same_pair q) (in_order (tree_in old s)))) (sym e) (rw (c.here, in_order-removed (tree_in old p.area.sheet) p (f.trees p.area.sheet).ordered) (any-filter_same (same_pair q) (differs pair_cmp p) (not (same_pair q p)) (λ k g. ap not (same_pairs.symm p k ∙ sym (ap (λ z. same_pair z p) (same_pair_is q k g)))) (in_order (tree_in old p.area.sheet)))))
     (λ n. rw (c.others q.area.sheet n, not_same q p n) refl)
+
+empty_tree : (trees : List Tree) (sheet : ℕ) → trees ≡ [] → tree_in trees sheet ≡ empty
+empty_tree trees sheet e = ap (λ ts. tree_in ts sheet) e
+
+sheet-empty : (sheet links : ℕ) → IsSheetTree sheet links empty
+unfolding IsStrictlySortedBy
+sheet-empty sheet links = record { level = tt; ordered = tt; own = tt; within = omega arith }
+
+-- what holds of no trees
+pub forest-none : (trees : List Tree) → trees ≡ [] → IsForest (record { trees = trees; links = 0 })
+forest-none trees e = record { room = omega arith; trees = λ sheet. rw (empty_tree trees sheet e) (sheet-empty sheet 0) }
+
+pub has-none : (trees : List Tree) (links : ℕ) → trees ≡ [] → (p : Pair) → has_pair (record { trees = trees; links = links }) p ≡ false
+unfolding has_pair
+has-none trees links e p = rw (empty_tree trees p.area.sheet e) refl
+
+-- trees that are the same at each sheet
+pub forest-same : (old new : List Tree) (links : ℕ) → ((sheet : ℕ) → tree_in new sheet ≡ tree_in old sheet) → IsForest (record { trees = old; links = links }) → IsForest (record { trees = new; links = links })
+forest-same old new links same f = record { room = f.room; trees = λ sheet. rw (same sheet) (f.trees sheet) }
+
+pub has-same : (old new : List Tree) (links more : ℕ) → ((sheet : ℕ) → tree_in new sheet ≡ tree_in old sheet) → (p : Pair) → has_pair (record { trees = new; links = links }) p ≡ has_pair (record { trees = old; links = more }) p
+unfolding has_pair
+has-same old new links more same p = rw (same p.area.sheet) refl

@@ -14,7 +14,7 @@ use Rattle.cell_refs.specs.Area.{area_has}
 use Rattle.area_index.specs.declared.pairs.Pair.{Pair}
 use Rattle.area_index.specs.Pairs.{pair_cmp}
 use Rattle.area_index.specs.Shapes.{Shape, empty, fork, in_order, bottom_of, IsLevel, IsOrdered}
-use Rattle.area_index.specs.Walk.{found, found_here}
+use Rattle.area_index.specs.Walk.{found, found_here, readers_at}
 use Rattle.area_index.proofs.Ordered.{sorted_front, sorted_back, back_above, front_below, drops, all_map, all_join}
 
 not_after : (a b : Ordering) → is_gt (ordering_then a b) ≡ false → is_gt a ≡ false
@@ -55,10 +55,6 @@ ends_above p cell h = and_false _ _ _ _ (gt-leb cell.row p.area.bottom h)
 
 begins_below : (p : Pair) (cell : Cell) → cell.row < p.area.top → area_has p.area cell ≡ false
 begins_below p cell h = and_false_early _ _ _ (gt-leb p.area.top cell.row h)
-
--- the readers of the pairs whose area has the cell
-abbrev pub readers_at : List Pair → Cell → List Cell
-readers_at pairs cell = map (λ p. p.reader) (filter (λ p. area_has p.area cell) pairs)
 
 here-is : (p : Pair) (cell : Cell) (pairs : List Pair) → readers_at (p ∷ pairs) cell ≡ found_here p cell ++ readers_at pairs cell
 here-is p cell pairs = elim (area_has p.area cell) as (λ w. map (λ q. q.reader) (cond w (p ∷ filter (λ q. area_has q.area cell) pairs) (filter (λ q. area_has q.area cell) pairs)) ≡ cond w (p.reader ∷ []) [] ++ readers_at pairs cell) [ true ↦ refl | false ↦ refl ]

@@ -5,3 +5,4 @@ mod Levels
 mod Found
 mod Bounds
 mod Forests
+mod Readers

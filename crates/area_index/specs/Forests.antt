@@ -1,5 +1,5 @@
 -- The trees of the sheets.
-use Rattle.std.specs.Prelude.{◌≡◌, ◌≢◌, ◌+◌, ◌<◌, ◌≤◌, ℕ, Bool, true, List, length, slice_index_or}
+use Rattle.std.specs.Prelude.{◌≡◌, ◌≢◌, ◌+◌, ◌*◌, ◌^◌, count_by, ◌<◌, ◌≤◌, ℕ, Bool, true, false, not, ◌||◌, ◌&&◌, List, map, length, slice_index_or}
 use Rattle.std.specs.List.{AllByRecursion, list_any}
 use Rattle.std.specs.List.Sorted.{IsStrictlySortedBy}
 use Rattle.cell_refs.specs.declared.areas.Area.{Area}
@@ -7,12 +7,16 @@ use Rattle.cell_refs.specs.declared.grid.Cell.{Cell}
 use Rattle.cell_refs.specs.Area.{area_has}
 use Rattle.cell_refs.specs.Cell.{cell_cmp, is_among}
 use Rattle.area_index.specs.declared.pairs.Pair.{Pair}
+use Rattle.std.specs.declared.boxed.Box.{Box}
+use Rattle.std.specs.declared.alloc.Global.{Global}
+use Rattle.area_index.specs.declared.trees.Node.{Node}
 use Rattle.area_index.specs.declared.trees.Tree.{Tree}
 use Rattle.area_index.specs.declared.trees.Tree.TheVariants.{Leaf}
 use Rattle.area_index.specs.declared.trees.TheConstants.{LEVELS}
 use Rattle.area_index.specs.Pairs.{same_pair}
 use Rattle.area_index.specs.Shapes.{Shape, in_order, height_of, IsLevel, IsOrdered}
 use Rattle.area_index.specs.Views.{shape_of}
+use Rattle.area_index.specs.Walk.{rows_have}
 
 -- the trees by the numbers of their sheets, and how often a pair was put in
 pub record Forest : Type 0 where
@@ -26,6 +30,14 @@ tree_in trees sheet = shape_of (slice_index_or trees sheet Leaf)
 -- the pairs of a sheet
 abbrev pub pairs_on : Forest → ℕ → List Pair
 pairs_on forest sheet = in_order (tree_in forest.trees sheet)
+
+-- the levels of a sheet's tree
+abbrev pub levels_on : Forest → ℕ → ℕ
+levels_on forest sheet = height_of (tree_in forest.trees sheet)
+
+-- the pairs of nodes
+abbrev pub pairs_of : List (Box Node Global) → List Pair
+pairs_of nodes = map (λ b. b.value.pair) nodes
 
 -- whether a pair is in the index
 unfoldable pub has_pair : Forest → Pair → Bool
@@ -69,3 +81,38 @@ pub record AreReadersAt (forest : Forest) (cell : Cell) (readers : List Cell) : 
     → (area : Area) × (has_pair forest (pair_at reader area) ≡ true) × (area_has area cell ≡ true)
   pub all : (reader : Cell) (area : Area) → has_pair forest (pair_at reader area) ≡ true
     → area_has area cell ≡ true → is_among readers reader ≡ true
+
+-- no pair is in the index
+abbrev pub HasNone : Forest → Type 0
+HasNone forest = (p : Pair) → has_pair forest p ≡ false
+
+-- the index has the same pairs as before
+abbrev pub SamePairs : Forest → Forest → Type 0
+SamePairs old new = (p : Pair) → has_pair new p ≡ has_pair old p
+
+-- the index has one pair more, where it wasn't there
+abbrev pub HasAlso : Forest → Forest → Pair → Type 0
+HasAlso old new pair = (p : Pair) → has_pair new p ≡ (same_pair p pair || has_pair old p)
+
+-- the index has those pairs too
+abbrev pub HasAlsoAll : Forest → Forest → List Pair → Type 0
+HasAlsoAll old new pairs = (p : Pair)
+    → has_pair new p ≡ (list_any (same_pair p) pairs || has_pair old p)
+
+-- the index has all but the pairs of a reader and these areas
+abbrev pub HasNoMore : Forest → Forest → Cell → List Area → Type 0
+HasNoMore old new reader areas = (p : Pair)
+    → has_pair new p ≡ (not (names reader areas p) && has_pair old p)
+
+-- the index has all but one pair
+abbrev pub HasLess : Forest → Forest → Pair → Type 0
+HasLess old new pair = (p : Pair)
+    → has_pair new p ≡ (not (same_pair p pair) && has_pair old p)
+
+-- the steps of a walk to a cell, from the count before to the count after: at most twice the levels of the sheet's
+-- tree for each of its areas whose rows have the cell's, and twice the levels; and what the levels are at most
+pub record IsBoundedWalk (forest : Forest) (cell : Cell) (before after : ℕ) : Type 0 where
+  pub steps : after ≤ before + 2 * ((count_by (rows_have cell.row) (pairs_on forest cell.sheet) + 1)
+    * levels_on forest cell.sheet)
+  pub levels : 2 ^ levels_on forest cell.sheet
+    ≤ (length (pairs_on forest cell.sheet) + 1) * (length (pairs_on forest cell.sheet) + 1)

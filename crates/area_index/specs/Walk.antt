@@ -1,5 +1,5 @@
 -- The walk to the pairs whose area has a cell.
-use Rattle.std.specs.Prelude.{ℕ, ◌+◌, ◌&&◌, Bool, nat_lt, nat_le, if◌then◌else◌, List, [], ◌∷◌, ◌++◌, length, count_by}
+use Rattle.std.specs.Prelude.{ℕ, ◌+◌, ◌&&◌, Bool, nat_lt, nat_le, if◌then◌else◌, List, [], ◌∷◌, ◌++◌, length, count_by, map, filter}
 use Rattle.cell_refs.specs.declared.grid.Cell.{Cell}
 use Rattle.cell_refs.specs.Area.{area_has}
 use Rattle.area_index.specs.declared.pairs.Pair.{Pair}
@@ -35,3 +35,7 @@ pairs_in t = length (in_order t)
 -- the number of those whose rows have the row
 abbrev pub pairs_at : Shape → ℕ → ℕ
 pairs_at t row = count_by (rows_have row) (in_order t)
+
+-- the readers of the pairs whose area has the cell
+abbrev pub readers_at : List Pair → Cell → List Cell
+readers_at pairs cell = map (λ p. p.reader) (filter (λ p. area_has p.area cell) pairs)

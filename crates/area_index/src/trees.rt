@@ -32,6 +32,19 @@ pub struct Node {
 pub const LEVELS: u64 = 0x4000_0000_0000_0000;
 
 impl Node {
+    /// A node for a pair, with nothing below it.
+    pub fn new(pair: Pair) -> Node
+        ensures { result.pair ≡ pair }
+    {
+        Node {
+            left: Tree::Leaf,
+            pair,
+            height: 1,
+            bottom: pair.area.bottom,
+            right: Tree::Leaf,
+        }
+    }
+
     /// The pair that stands here.
     pub fn pair(&self) -> Pair
         ensures { result ≡ self.now.pair }
