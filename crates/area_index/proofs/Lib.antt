@@ -1,4 +1,5 @@
 -- Laws of the trees.
+pub mod PublicLaws
 mod Ordered
 mod InOrder
 mod Levels

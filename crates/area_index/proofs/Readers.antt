@@ -1,7 +1,7 @@
 -- The readers that are found, as a list in cell order.
 use Rattle.std.proofs.Common.{◌≡◌, ℕ, Bool, true, false, cond, ◌&&◌, ◌||◌, ◌⊎◌, List, [], ◌∷◌, ◌++◌, refl, ap, sym, ◌∙◌, subst, inl, inr}
 use Rattle.std.specs.Prelude.{map}
-use Rattle.std.specs.List.{list_any, filter, dedup}
+use Rattle.std.specs.List.{AllByRecursion, list_any, filter, dedup}
 use Rattle.std.specs.List.Sorted.{IsStrictlySortedBy}
 use Rattle.std.specs.Cmp.{both_ways}
 use Rattle.std.proofs.lemmas.Bool.{or_cases, or_left, or_right, eqb-true}
@@ -68,3 +68,17 @@ are_readers forest cell cells readers e same sorted = record {
   all = λ reader area h has.
     same reader ∙ subst (λ xs. is_among xs reader ≡ true) (sym e) (all_readers (pairs_on forest cell.sheet) cell (pair_at reader area) (subst (λ s. list_any (same_pair (pair_at reader area)) (in_order (tree_in forest.trees s)) ≡ true) (sym (same_sheet area cell has)) h) has);
 }
+
+own_sheet : (pairs : List Pair) (sheet : ℕ) (p : Pair) → AllByRecursion (λ q. q.area.sheet ≡ sheet) pairs → list_any (same_pair p) pairs ≡ true → p.area.sheet ≡ sheet
+own_sheet [] sheet p a h = cc
+own_sheet (q ∷ pairs) sheet p a h = elim (or_cases (same_pair p q) (list_any (same_pair p) pairs) h) as (λ _. p.area.sheet ≡ sheet) [
+  | inl same ↦ ap (λ r. r.area.sheet) (same_pair_is p q same) ∙ a.0
+  | inr more ↦ own_sheet pairs sheet p a.1 more
+]
+
+-- the pairs of a sheet are those of the index on it
+pub own_pairs : (forest : Forest) (sheet : ℕ) → AllByRecursion (λ q. q.area.sheet ≡ sheet) (pairs_on forest sheet) → (p : Pair) → list_any (same_pair p) (pairs_on forest sheet) ≡ true → (has_pair forest p ≡ true) × (p.area.sheet ≡ sheet)
+unfolding has_pair
+own_pairs forest sheet a p h =
+    let e = own_sheet (pairs_on forest sheet) sheet p a h in
+    (subst (λ s. list_any (same_pair p) (in_order (tree_in forest.trees s)) ≡ true) (sym e) h, e)

@@ -13,7 +13,7 @@ use Rattle.area_index.specs.declared.trees.Node.{Node}
 use Rattle.area_index.specs.declared.trees.Tree.{Tree}
 use Rattle.area_index.specs.declared.trees.Tree.TheVariants.{Leaf}
 use Rattle.area_index.specs.declared.trees.TheConstants.{LEVELS}
-use Rattle.area_index.specs.Pairs.{same_pair}
+use Rattle.area_index.specs.Pairs.{pair_cmp, same_pair}
 use Rattle.area_index.specs.Shapes.{Shape, in_order, height_of, IsLevel, IsOrdered}
 use Rattle.area_index.specs.Views.{shape_of}
 use Rattle.area_index.specs.Walk.{rows_have}
@@ -110,9 +110,18 @@ HasLess old new pair = (p : Pair)
     → has_pair new p ≡ (not (same_pair p pair) && has_pair old p)
 
 -- the steps of a walk to a cell, from the count before to the count after: at most twice the levels of the sheet's
--- tree for each of its areas whose rows have the cell's, and twice the levels; and what the levels are at most
+-- tree for each of its pairs whose rows have the cell's, and twice the levels; what the levels are at most; and that the
+-- sheet's pairs are apart, and are those of the index
 pub record IsBoundedWalk (forest : Forest) (cell : Cell) (before after : ℕ) : Type 0 where
   pub steps : after ≤ before + 2 * ((count_by (rows_have cell.row) (pairs_on forest cell.sheet) + 1)
     * levels_on forest cell.sheet)
   pub levels : 2 ^ levels_on forest cell.sheet
     ≤ (length (pairs_on forest cell.sheet) + 1) * (length (pairs_on forest cell.sheet) + 1)
+  pub ordered : IsStrictlySortedBy pair_cmp (pairs_on forest cell.sheet)
+  pub own : (p : Pair) → list_any (same_pair p) (pairs_on forest cell.sheet) ≡ true
+    → (has_pair forest p ≡ true) × (p.area.sheet ≡ cell.sheet)
+
+-- the index has a reader's new pairs in place of its old ones
+abbrev pub HasInstead : Forest → Forest → Cell → List Area → List Pair → Type 0
+HasInstead old new reader areas pairs = (p : Pair) → has_pair new p
+    ≡ (list_any (same_pair p) pairs || (not (names reader areas p) && has_pair old p))

@@ -31,7 +31,7 @@ impl Model for AreaIndex {
 }
 
 impl AreaIndex {
-    ghost use Rattle.area_index.specs.Forests.{AreReadersAt, IsBoundedWalk, HasAlso, HasAlsoAll, HasLess, HasNoMore, HasNone, IsReady, SamePairs, pair_at, pairs_of, pairs_on};
+    ghost use Rattle.area_index.specs.Forests.{AreReadersAt, IsBoundedWalk, HasAlso, HasAlsoAll, HasInstead, HasLess, HasNoMore, HasNone, IsReady, SamePairs, pair_at, pairs_of, pairs_on};
     ghost use Rattle.area_index.specs.Walk.{readers_at};
 
     /// An index without pairs.
@@ -78,13 +78,22 @@ impl AreaIndex {
     }
 
     /// Puts the pairs of these nodes in. It takes no memory.
-    pub fn insert_all(&mut self, mut nodes: Vec<Box<Node>>)
+    fn insert_all(&mut self, mut nodes: Vec<Box<Node>>)
         requires ready { IsReady self.old (length nodes.items) }
         ensures pairs { HasAlsoAll self.old self.new (pairs_of nodes.items) }
     {
         while let Some(node) = nodes.pop() {
             self.insert(node);
         }
+    }
+
+    /// Puts the pairs of these nodes in, and takes those of a reader and its old areas out. It takes no memory.
+    pub fn exchange(&mut self, reader: Cell, areas: &[Area], nodes: Vec<Box<Node>>)
+        requires ready { IsReady self.old (length nodes.items) }
+        ensures pairs { HasInstead self.old self.new reader areas.now (pairs_of nodes.items) }
+    {
+        self.remove_all(reader, areas);
+        self.insert_all(nodes);
     }
 
     /// Nodes for the pairs of a reader and these areas, and room for them. The pairs stay.
