@@ -40,9 +40,9 @@ some_at (fork l p h b r) row a tops positive reach =
     elim (leb_tells row p.area.bottom) as (λ _. 1 ≤ pairs_at (fork l p h b r) row) [
       | inl x ↦ let o = one-is row p here x.1 in omega arith
       | inr x ↦ elim (leb_tells row (bottom_of l)) as (λ _. 1 ≤ pairs_at (fork l p h b r) row) [
-          | inl y ↦ let o = left y.1 in omega arith
-          | inr y ↦ let o : 1 ≤ pairs_at r row = right (let x1 = x.1 in let y1 = y.1 in omega arith) in omega arith
-        ]
+        | inl y ↦ let o = left y.1 in omega arith
+        | inr y ↦ let o : 1 ≤ pairs_at r row = right (let x1 = x.1 in let y1 = y.1 in omega arith) in omega arith
+      ]
     ]
 
 -- the products behind a step down both sides
@@ -63,6 +63,7 @@ visits_above empty row a tops = omega arith
 visits_above (fork l p h b r) row a tops = by (nat_lt b row) refl (nat_lt row p.area.top) refl (visits_above l row a.0 (all_front _ (in_order l) (p ∷ in_order r) tops)) (visits_above r row a.1 (all_behind _ (in_order l) p (in_order r) tops)) where
   k : ℕ
   k = pairs_at (fork l p h b r) row
+
   some : nat_lt b row ≡ false → 1 ≤ pairs_at (fork l p h b r) row
   some n =
       let reach : row ≤ b = ltb-false b row n in
@@ -72,6 +73,7 @@ visits_above (fork l p h b r) row a tops = by (nat_lt b row) refl (nat_lt row p.
         | inl x ↦ let o = one-is row p here x.1 in omega arith
         | inr x ↦ some_at (fork l p h b r) row a tops (let y = x.1 in omega arith) reach
       ]
+
   by : (w : Bool) → nat_lt b row ≡ w → (v : Bool) → nat_lt row p.area.top ≡ v → visits l row ≤ 1 + 2 * (pairs_at l row * height_of l) → visits r row ≤ 1 + 2 * (pairs_at r row * height_of r) → cond w 1 (1 + visits l row + cond v 0 (visits r row)) ≤ 1 + 2 * (pairs_at (fork l p h b r) row * h)
   by true n v e x y = omega arith
   by false n true e x y = absurd (let u : row < p.area.top = ltb-true row p.area.top e in let here = all_middle _ (in_order l) p (in_order r) tops in omega arith)
@@ -130,12 +132,12 @@ levels-le (fork l p h b r) a =
     let n : pairs_in (fork l p h b r) + 1 ≡ (pairs_in l + 1) + (pairs_in r + 1) = omega (arith, length-append (in_order l) (p ∷ in_order r)) in
     let s = squares (2 ^ height_of l) (2 ^ height_of r) (pairs_in l + 1) (pairs_in r + 1) (levels-le l a.0) (levels-le r a.1) (doubled (height_of l) (height_of r) a.3) (doubled (height_of r) (height_of l) a.4) in
     rw (n, g) (top s (leb_tells (height_of l) (height_of r))) where
-  top : (2 * 2 ^ height_of l ≤ ((pairs_in l + 1) + (pairs_in r + 1)) * ((pairs_in l + 1) + (pairs_in r + 1))) × (2 * 2 ^ height_of r ≤ ((pairs_in l + 1) + (pairs_in r + 1)) * ((pairs_in l + 1) + (pairs_in r + 1))) → ((nat_le (height_of l) (height_of r) ≡ true) × (height_of l ≤ height_of r)) ⊎ ((nat_le (height_of l) (height_of r) ≡ false) × (height_of r < height_of l)) → 2 ^ (max (height_of l) (height_of r) + 1) ≤ ((pairs_in l + 1) + (pairs_in r + 1)) * ((pairs_in l + 1) + (pairs_in r + 1))
-  top s (inl k) =
-      let e : max (height_of l) (height_of r) + 1 ≡ suc (height_of r) = (let z = k.1 in omega arith) in
-      let u : 2 ^ suc (height_of r) ≡ 2 ^ height_of r * 2 = pow-suc 2 (height_of r) in
-      rw e (let z = s.1 in omega arith)
-  top s (inr k) =
-      let e : max (height_of l) (height_of r) + 1 ≡ suc (height_of l) = (let z = k.1 in omega arith) in
-      let u : 2 ^ suc (height_of l) ≡ 2 ^ height_of l * 2 = pow-suc 2 (height_of l) in
-      rw e (let z = s.0 in omega arith)
+      top : (2 * 2 ^ height_of l ≤ ((pairs_in l + 1) + (pairs_in r + 1)) * ((pairs_in l + 1) + (pairs_in r + 1))) × (2 * 2 ^ height_of r ≤ ((pairs_in l + 1) + (pairs_in r + 1)) * ((pairs_in l + 1) + (pairs_in r + 1))) → ((nat_le (height_of l) (height_of r) ≡ true) × (height_of l ≤ height_of r)) ⊎ ((nat_le (height_of l) (height_of r) ≡ false) × (height_of r < height_of l)) → 2 ^ (max (height_of l) (height_of r) + 1) ≤ ((pairs_in l + 1) + (pairs_in r + 1)) * ((pairs_in l + 1) + (pairs_in r + 1))
+      top s (inl k) =
+          let e : max (height_of l) (height_of r) + 1 ≡ suc (height_of r) = (let z = k.1 in omega arith) in
+          let u : 2 ^ suc (height_of r) ≡ 2 ^ height_of r * 2 = pow-suc 2 (height_of r) in
+          rw e (let z = s.1 in omega arith)
+      top s (inr k) =
+          let e : max (height_of l) (height_of r) + 1 ≡ suc (height_of l) = (let z = k.1 in omega arith) in
+          let u : 2 ^ suc (height_of l) ≡ 2 ^ height_of l * 2 = pow-suc 2 (height_of l) in
+          rw e (let z = s.0 in omega arith)

@@ -32,12 +32,12 @@ unfolding pair_cmp
 exact_order a b h =
     ap (λ (p : ((((ℕ × ℕ) × ℕ) × ℕ) × Cell) × ℕ). record { area = record { sheet = p.1; top = p.0.0.0.0.0; left = p.0.0.0.0.1; bottom = p.0.0.0.1; right = p.0.0.1 }; reader = p.0.1 })
     (exact_pairs (λ (p q : (((ℕ × ℕ) × ℕ) × ℕ) × Cell). ordering_then (ordering_then (ordering_then (ordering_then (nat_cmp p.0.0.0.0 q.0.0.0.0) (nat_cmp p.0.0.0.1 q.0.0.0.1)) (nat_cmp p.0.0.1 q.0.0.1)) (nat_cmp p.0.1 q.0.1)) (cell_cmp p.1 q.1)) nat_cmp
-      (exact_pairs (λ (p q : ((ℕ × ℕ) × ℕ) × ℕ). ordering_then (ordering_then (ordering_then (nat_cmp p.0.0.0 q.0.0.0) (nat_cmp p.0.0.1 q.0.0.1)) (nat_cmp p.0.1 q.0.1)) (nat_cmp p.1 q.1)) cell_cmp
-        (exact_pairs (λ (p q : (ℕ × ℕ) × ℕ). ordering_then (ordering_then (nat_cmp p.0.0 q.0.0) (nat_cmp p.0.1 q.0.1)) (nat_cmp p.1 q.1)) nat_cmp
-          (exact_pairs (λ (p q : ℕ × ℕ). ordering_then (nat_cmp p.0 q.0) (nat_cmp p.1 q.1)) nat_cmp (exact_pairs nat_cmp nat_cmp exact_unsigned exact_unsigned) exact_unsigned)
-          exact_unsigned)
-        exact_cells)
-      exact_unsigned
+    (exact_pairs (λ (p q : ((ℕ × ℕ) × ℕ) × ℕ). ordering_then (ordering_then (ordering_then (nat_cmp p.0.0.0 q.0.0.0) (nat_cmp p.0.0.1 q.0.0.1)) (nat_cmp p.0.1 q.0.1)) (nat_cmp p.1 q.1)) cell_cmp
+    (exact_pairs (λ (p q : (ℕ × ℕ) × ℕ). ordering_then (ordering_then (nat_cmp p.0.0 q.0.0) (nat_cmp p.0.1 q.0.1)) (nat_cmp p.1 q.1)) nat_cmp
+    (exact_pairs (λ (p q : ℕ × ℕ). ordering_then (nat_cmp p.0 q.0) (nat_cmp p.1 q.1)) nat_cmp (exact_pairs nat_cmp nat_cmp exact_unsigned exact_unsigned) exact_unsigned)
+    exact_unsigned)
+    exact_cells)
+    exact_unsigned
     (((((a.area.top, a.area.left), a.area.bottom), a.area.right), a.reader), a.area.sheet) (((((b.area.top, b.area.left), b.area.bottom), b.area.right), b.reader), b.area.sheet) h)
 
 is_equal : (o : Ordering) → is_eq o ≡ true → o ≡ Equal
@@ -94,16 +94,16 @@ pub forest-inserted : (old new : List Tree) (links : ℕ) (p : Pair) → IsFores
 forest-inserted old new links p f c room = record {
   room = room;
   trees = λ sheet. by_sheet (IsSheetTree sheet (links + 1) (tree_in new sheet)) sheet p.area.sheet
-    (λ e. rw (e, c.here) (sheet-inserted p.area.sheet links (tree_in old p.area.sheet) p (f.trees p.area.sheet) refl room))
-    (λ n. rw (c.others sheet n) (sheet-more sheet links (tree_in old sheet) (f.trees sheet)));
+      (λ e. rw (e, c.here) (sheet-inserted p.area.sheet links (tree_in old p.area.sheet) p (f.trees p.area.sheet) refl room))
+      (λ n. rw (c.others sheet n) (sheet-more sheet links (tree_in old sheet) (f.trees sheet)));
 }
 
 pub forest-removed : (old new : List Tree) (links : ℕ) (p : Pair) → IsForest (record { trees = old; links = links }) → ChangesAt old new p.area.sheet (removed (tree_in old p.area.sheet) p) → IsForest (record { trees = new; links = links })
 forest-removed old new links p f c = record {
   room = f.room;
   trees = λ sheet. by_sheet (IsSheetTree sheet links (tree_in new sheet)) sheet p.area.sheet
-    (λ e. rw (e, c.here) (sheet-removed p.area.sheet links (tree_in old p.area.sheet) p (f.trees p.area.sheet) f.room))
-    (λ n. rw (c.others sheet n) (f.trees sheet));
+      (λ e. rw (e, c.here) (sheet-removed p.area.sheet links (tree_in old p.area.sheet) p (f.trees p.area.sheet) f.room))
+      (λ n. rw (c.others sheet n) (f.trees sheet));
 }
 
 not_same : (q p : Pair) → q.area.sheet ≢ p.area.sheet → same_pair q p ≡ false

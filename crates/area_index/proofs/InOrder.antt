@@ -46,9 +46,9 @@ in_order-balanced l p r =
     elim (nat_lt (higher (height_of r)) (height_of l)) as (λ c. in_order (cond c (lean_left l p r) (cond (nat_lt (higher (height_of l)) (height_of r)) (lean_right l p r) (node_of l p r))) ≡ in_order l ++ p ∷ in_order r) [
       | true ↦ in_order-lean_left l p r
       | false ↦ elim (nat_lt (higher (height_of l)) (height_of r)) as (λ c. in_order (cond c (lean_right l p r) (node_of l p r)) ≡ in_order l ++ p ∷ in_order r) [
-          | true ↦ in_order-lean_right l p r
-          | false ↦ in_order-node_of l p r
-        ]
+        | true ↦ in_order-lean_right l p r
+        | false ↦ in_order-node_of l p r
+      ]
     ]
 
 in_order-rest_of : (l : Shape) (p : Pair) (r : Shape) → first_of l p ∷ in_order (rest_of l p r) ≡ in_order l ++ p ∷ in_order r

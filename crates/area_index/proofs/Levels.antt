@@ -51,10 +51,13 @@ unfolding lean_left
 level-lean_left l p h b m q r a c e room = by (nat_le (height_of m) (height_of l)) refl where
   g : h ≡ max (height_of l) (height_of m) + 1
   g = a.2
+
   g1 : height_of l ≤ height_of m + 1
   g1 = a.3
+
   g2 : height_of m ≤ height_of l + 1
   g2 = a.4
+
   by : (w : Bool) → nat_le (height_of m) (height_of l) ≡ w → IsLevelWithin (cond w (node_of l p (node_of m q r)) (raised l p m q r)) h (h + 1)
   by true is =
       let k1 = g in let k2 = g1 in let k3 = g2 in
@@ -79,10 +82,13 @@ unfolding lean_right
 level-lean_right l p m q h b r c a e room = by (nat_le (height_of m) (height_of r)) refl where
   g : h ≡ max (height_of m) (height_of r) + 1
   g = a.2
+
   g1 : height_of m ≤ height_of r + 1
   g1 = a.3
+
   g2 : height_of r ≤ height_of m + 1
   g2 = a.4
+
   by : (w : Bool) → nat_le (height_of m) (height_of r) ≡ w → IsLevelWithin (cond w (node_of (node_of l p m) q r) (raised l p m q r)) h (h + 1)
   by true is =
       let k1 = g in let k2 = g1 in let k3 = g2 in
@@ -122,8 +128,10 @@ unfolding balanced
 level-balanced l p r a b c d room more = by (nat_lt (higher (height_of r)) (height_of l)) refl where
   one : higher (height_of r) ≡ height_of r + 1
   one = higher_one (height_of r) more
+
   other : higher (height_of l) ≡ height_of l + 1
   other = higher_one (height_of l) room
+
   by_right : (w : Bool) → nat_lt (higher (height_of l)) (height_of r) ≡ w → height_of l ≤ height_of r + 1 → SettlesTo (cond w (lean_right l p r) (node_of l p r)) (height_of l) (height_of r)
   by_right true is n =
       let u : higher (height_of l) < height_of r = ltb-true (higher (height_of l)) (height_of r) is in
@@ -136,6 +144,7 @@ level-balanced l p r a b c d room more = by (nat_lt (higher (height_of r)) (heig
       let k = other in
       let e : height_of (node_of l p r) ≡ max (height_of l) (height_of r) + 1 = height-node_of l p r (omega arith) in
       record { level = level-node_of l p r a b n (omega arith) (omega arith); not_lower = omega arith; not_higher = omega arith; kept = omega arith }
+
   by : (w : Bool) → nat_lt (higher (height_of r)) (height_of l) ≡ w → SettlesTo (cond w (lean_left l p r) (cond (nat_lt (higher (height_of l)) (height_of r)) (lean_right l p r) (node_of l p r))) (height_of l) (height_of r)
   by true is =
       let u : higher (height_of r) < height_of l = ltb-true (higher (height_of r)) (height_of l) is in
@@ -156,27 +165,27 @@ level-inserted empty p a room =
 level-inserted (fork l q h b r) p a room =
     let g : h ≡ max (height_of l) (height_of r) + 1 = a.2 in
     by (level-inserted l p a.0 (omega arith)) (level-inserted r p a.1 (omega arith)) (pair_cmp p q) where
-  by : IsLevelWithin (inserted l p) (height_of l) (height_of l + 1) → IsLevelWithin (inserted r p) (height_of r) (height_of r + 1) → (o : Ordering) → IsLevelWithin (match_ordering o (balanced (inserted l p) q r) (node_of l q r) (balanced l q (inserted r p))) h (h + 1)
-  by x y Less =
-      let g : h ≡ max (height_of l) (height_of r) + 1 = a.2 in
-      let g1 : height_of l ≤ height_of r + 1 = a.3 in
-      let g2 : height_of r ≤ height_of l + 1 = a.4 in
-      let x1 = x.not_lower in let x2 = x.not_higher in
-      let s : SettlesTo (balanced (inserted l p) q r) (height_of (inserted l p)) (height_of r) = level-balanced (inserted l p) q r x.level a.1 (omega arith) (omega arith) (omega arith) (omega arith) in
-      let s1 = s.not_lower in let s2 = s.not_higher in let s3 = s.kept in
-      record { level = s.level; not_lower = omega arith; not_higher = omega arith }
-  by x y Equal =
-      let g : h ≡ max (height_of l) (height_of r) + 1 = a.2 in
-      let e : height_of (node_of l q r) ≡ max (height_of l) (height_of r) + 1 = height-node_of l q r (omega arith) in
-      record { level = level-node_of l q r a.0 a.1 a.3 a.4 (omega arith); not_lower = omega arith; not_higher = omega arith }
-  by x y Greater =
-      let g : h ≡ max (height_of l) (height_of r) + 1 = a.2 in
-      let g1 : height_of l ≤ height_of r + 1 = a.3 in
-      let g2 : height_of r ≤ height_of l + 1 = a.4 in
-      let y1 = y.not_lower in let y2 = y.not_higher in
-      let s : SettlesTo (balanced l q (inserted r p)) (height_of l) (height_of (inserted r p)) = level-balanced l q (inserted r p) a.0 y.level (omega arith) (omega arith) (omega arith) (omega arith) in
-      let s1 = s.not_lower in let s2 = s.not_higher in let s3 = s.kept in
-      record { level = s.level; not_lower = omega arith; not_higher = omega arith }
+      by : IsLevelWithin (inserted l p) (height_of l) (height_of l + 1) → IsLevelWithin (inserted r p) (height_of r) (height_of r + 1) → (o : Ordering) → IsLevelWithin (match_ordering o (balanced (inserted l p) q r) (node_of l q r) (balanced l q (inserted r p))) h (h + 1)
+      by x y Less =
+          let g : h ≡ max (height_of l) (height_of r) + 1 = a.2 in
+          let g1 : height_of l ≤ height_of r + 1 = a.3 in
+          let g2 : height_of r ≤ height_of l + 1 = a.4 in
+          let x1 = x.not_lower in let x2 = x.not_higher in
+          let s : SettlesTo (balanced (inserted l p) q r) (height_of (inserted l p)) (height_of r) = level-balanced (inserted l p) q r x.level a.1 (omega arith) (omega arith) (omega arith) (omega arith) in
+          let s1 = s.not_lower in let s2 = s.not_higher in let s3 = s.kept in
+          record { level = s.level; not_lower = omega arith; not_higher = omega arith }
+      by x y Equal =
+          let g : h ≡ max (height_of l) (height_of r) + 1 = a.2 in
+          let e : height_of (node_of l q r) ≡ max (height_of l) (height_of r) + 1 = height-node_of l q r (omega arith) in
+          record { level = level-node_of l q r a.0 a.1 a.3 a.4 (omega arith); not_lower = omega arith; not_higher = omega arith }
+      by x y Greater =
+          let g : h ≡ max (height_of l) (height_of r) + 1 = a.2 in
+          let g1 : height_of l ≤ height_of r + 1 = a.3 in
+          let g2 : height_of r ≤ height_of l + 1 = a.4 in
+          let y1 = y.not_lower in let y2 = y.not_higher in
+          let s : SettlesTo (balanced l q (inserted r p)) (height_of l) (height_of (inserted r p)) = level-balanced l q (inserted r p) a.0 y.level (omega arith) (omega arith) (omega arith) (omega arith) in
+          let s1 = s.not_lower in let s2 = s.not_higher in let s3 = s.kept in
+          record { level = s.level; not_lower = omega arith; not_higher = omega arith }
 
 -- a tree that is level, whose height is one of two
 pub record IsLevelBelow (t : Shape) (h : ℕ) : Type 0 where
@@ -210,25 +219,25 @@ level-removed empty p a room = record { level = tt; not_higher = omega arith; no
 level-removed (fork l q h b r) p a room =
     let g : h ≡ max (height_of l) (height_of r) + 1 = a.2 in
     by (level-removed l p a.0 (omega arith)) (level-removed r p a.1 (omega arith)) (pair_cmp p q) where
-  by : IsLevelBelow (removed l p) (height_of l) → IsLevelBelow (removed r p) (height_of r) → (o : Ordering) → IsLevelBelow (match_ordering o (balanced (removed l p) q r) (joined l r) (balanced l q (removed r p))) h
-  by x y Less =
-      let g : h ≡ max (height_of l) (height_of r) + 1 = a.2 in
-      let g1 : height_of l ≤ height_of r + 1 = a.3 in
-      let g2 : height_of r ≤ height_of l + 1 = a.4 in
-      let x1 = x.not_lower in let x2 = x.not_higher in
-      let s : SettlesTo (balanced (removed l p) q r) (height_of (removed l p)) (height_of r) = level-balanced (removed l p) q r x.level a.1 (omega arith) (omega arith) (omega arith) (omega arith) in
-      let s1 = s.not_lower in let s2 = s.not_higher in let s3 = s.kept in
-      record { level = s.level; not_lower = omega arith; not_higher = omega arith }
-  by x y Equal =
-      let g : h ≡ max (height_of l) (height_of r) + 1 = a.2 in
-      let s = level-joined l r a.0 a.1 a.3 a.4 (omega arith) (omega arith) in
-      let s1 = s.not_lower in let s2 = s.not_higher in
-      record { level = s.level; not_lower = omega arith; not_higher = omega arith }
-  by x y Greater =
-      let g : h ≡ max (height_of l) (height_of r) + 1 = a.2 in
-      let g1 : height_of l ≤ height_of r + 1 = a.3 in
-      let g2 : height_of r ≤ height_of l + 1 = a.4 in
-      let y1 = y.not_lower in let y2 = y.not_higher in
-      let s : SettlesTo (balanced l q (removed r p)) (height_of l) (height_of (removed r p)) = level-balanced l q (removed r p) a.0 y.level (omega arith) (omega arith) (omega arith) (omega arith) in
-      let s1 = s.not_lower in let s2 = s.not_higher in let s3 = s.kept in
-      record { level = s.level; not_lower = omega arith; not_higher = omega arith }
+      by : IsLevelBelow (removed l p) (height_of l) → IsLevelBelow (removed r p) (height_of r) → (o : Ordering) → IsLevelBelow (match_ordering o (balanced (removed l p) q r) (joined l r) (balanced l q (removed r p))) h
+      by x y Less =
+          let g : h ≡ max (height_of l) (height_of r) + 1 = a.2 in
+          let g1 : height_of l ≤ height_of r + 1 = a.3 in
+          let g2 : height_of r ≤ height_of l + 1 = a.4 in
+          let x1 = x.not_lower in let x2 = x.not_higher in
+          let s : SettlesTo (balanced (removed l p) q r) (height_of (removed l p)) (height_of r) = level-balanced (removed l p) q r x.level a.1 (omega arith) (omega arith) (omega arith) (omega arith) in
+          let s1 = s.not_lower in let s2 = s.not_higher in let s3 = s.kept in
+          record { level = s.level; not_lower = omega arith; not_higher = omega arith }
+      by x y Equal =
+          let g : h ≡ max (height_of l) (height_of r) + 1 = a.2 in
+          let s = level-joined l r a.0 a.1 a.3 a.4 (omega arith) (omega arith) in
+          let s1 = s.not_lower in let s2 = s.not_higher in
+          record { level = s.level; not_lower = omega arith; not_higher = omega arith }
+      by x y Greater =
+          let g : h ≡ max (height_of l) (height_of r) + 1 = a.2 in
+          let g1 : height_of l ≤ height_of r + 1 = a.3 in
+          let g2 : height_of r ≤ height_of l + 1 = a.4 in
+          let y1 = y.not_lower in let y2 = y.not_higher in
+          let s : SettlesTo (balanced l q (removed r p)) (height_of l) (height_of (removed r p)) = level-balanced l q (removed r p) a.0 y.level (omega arith) (omega arith) (omega arith) (omega arith) in
+          let s1 = s.not_lower in let s2 = s.not_higher in let s3 = s.kept in
+          record { level = s.level; not_lower = omega arith; not_higher = omega arith }

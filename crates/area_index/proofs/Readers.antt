@@ -32,6 +32,7 @@ each_reader [] cell reader h = cc
 each_reader (p ∷ pairs) cell reader h = by (area_has p.area cell) refl (each_reader pairs cell reader) h where
   later : ((q : Pair) × (list_any (same_pair q) pairs ≡ true) × (q.reader ≡ reader) × (area_has q.area cell ≡ true)) → (q : Pair) × (list_any (same_pair q) (p ∷ pairs) ≡ true) × (q.reader ≡ reader) × (area_has q.area cell ≡ true)
   later f = (f.0, or_right (same_pair f.0 p) _ f.1, f.2, f.3)
+
   by : (w : Bool) → area_has p.area cell ≡ w → (is_among (readers_at pairs cell) reader ≡ true → (q : Pair) × (list_any (same_pair q) pairs ≡ true) × (q.reader ≡ reader) × (area_has q.area cell ≡ true)) → is_among (map (λ r. r.reader) (cond w (p ∷ filter (λ r. area_has r.area cell) pairs) (filter (λ r. area_has r.area cell) pairs))) reader ≡ true → (q : Pair) × (list_any (same_pair q) (p ∷ pairs) ≡ true) × (q.reader ≡ reader) × (area_has q.area cell ≡ true)
   by true has rest k = elim (or_cases (same_cell reader p.reader) (is_among (readers_at pairs cell) reader) k) as (λ _. (q : Pair) × (list_any (same_pair q) (p ∷ pairs) ≡ true) × (q.reader ≡ reader) × (area_has q.area cell ≡ true)) [
     | inl here ↦ (p, or_left (same_pair p p) _ (same_pairs.refl p), sym (same_cell_is reader p.reader here), has)
@@ -62,11 +63,11 @@ unfolding has_pair
 are_readers forest cell cells readers e same sorted = record {
   sorted = sorted;
   each = λ reader h.
-    let f = each_reader (pairs_on forest cell.sheet) cell reader (subst (λ xs. is_among xs reader ≡ true) e (sym (same reader) ∙ h)) in
-    let one : pair_at reader f.0.area ≡ f.0 = ap (λ r. pair_at r f.0.area) (sym f.2) in
-    (f.0.area, subst (λ p. list_any (same_pair p) (in_order (tree_in forest.trees p.area.sheet)) ≡ true) (sym one) (subst (λ s. list_any (same_pair f.0) (in_order (tree_in forest.trees s)) ≡ true) (same_sheet f.0.area cell f.3) f.1), f.3);
+      let f = each_reader (pairs_on forest cell.sheet) cell reader (subst (λ xs. is_among xs reader ≡ true) e (sym (same reader) ∙ h)) in
+      let one : pair_at reader f.0.area ≡ f.0 = ap (λ r. pair_at r f.0.area) (sym f.2) in
+      (f.0.area, subst (λ p. list_any (same_pair p) (in_order (tree_in forest.trees p.area.sheet)) ≡ true) (sym one) (subst (λ s. list_any (same_pair f.0) (in_order (tree_in forest.trees s)) ≡ true) (same_sheet f.0.area cell f.3) f.1), f.3);
   all = λ reader area h has.
-    same reader ∙ subst (λ xs. is_among xs reader ≡ true) (sym e) (all_readers (pairs_on forest cell.sheet) cell (pair_at reader area) (subst (λ s. list_any (same_pair (pair_at reader area)) (in_order (tree_in forest.trees s)) ≡ true) (sym (same_sheet area cell has)) h) has);
+      same reader ∙ subst (λ xs. is_among xs reader ≡ true) (sym e) (all_readers (pairs_on forest cell.sheet) cell (pair_at reader area) (subst (λ s. list_any (same_pair (pair_at reader area)) (in_order (tree_in forest.trees s)) ≡ true) (sym (same_sheet area cell has)) h) has);
 }
 
 own_sheet : (pairs : List Pair) (sheet : ℕ) (p : Pair) → AllByRecursion (λ q. q.area.sheet ≡ sheet) pairs → list_any (same_pair p) pairs ≡ true → p.area.sheet ≡ sheet

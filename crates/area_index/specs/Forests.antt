@@ -78,9 +78,9 @@ pub record IsReady (forest : Forest) (count : ℕ) : Type 0 where
 pub record AreReadersAt (forest : Forest) (cell : Cell) (readers : List Cell) : Type 0 where
   pub sorted : IsStrictlySortedBy cell_cmp readers
   pub each : (reader : Cell) → is_among readers reader ≡ true
-    → (area : Area) × (has_pair forest (pair_at reader area) ≡ true) × (area_has area cell ≡ true)
+      → (area : Area) × (has_pair forest (pair_at reader area) ≡ true) × (area_has area cell ≡ true)
   pub all : (reader : Cell) (area : Area) → has_pair forest (pair_at reader area) ≡ true
-    → area_has area cell ≡ true → is_among readers reader ≡ true
+      → area_has area cell ≡ true → is_among readers reader ≡ true
 
 -- no pair is in the index
 abbrev pub HasNone : Forest → Type 0
@@ -114,12 +114,12 @@ HasLess old new pair = (p : Pair)
 -- sheet's pairs are apart, and are those of the index
 pub record IsBoundedWalk (forest : Forest) (cell : Cell) (before after : ℕ) : Type 0 where
   pub steps : after ≤ before + 2 * ((count_by (rows_have cell.row) (pairs_on forest cell.sheet) + 1)
-    * levels_on forest cell.sheet)
+      * levels_on forest cell.sheet)
   pub levels : 2 ^ levels_on forest cell.sheet
-    ≤ (length (pairs_on forest cell.sheet) + 1) * (length (pairs_on forest cell.sheet) + 1)
+      ≤ (length (pairs_on forest cell.sheet) + 1) * (length (pairs_on forest cell.sheet) + 1)
   pub ordered : IsStrictlySortedBy pair_cmp (pairs_on forest cell.sheet)
   pub own : (p : Pair) → list_any (same_pair p) (pairs_on forest cell.sheet) ≡ true
-    → (has_pair forest p ≡ true) × (p.area.sheet ≡ cell.sheet)
+      → (has_pair forest p ≡ true) × (p.area.sheet ≡ cell.sheet)
 
 -- the index has a reader's new pairs in place of its old ones
 abbrev pub HasInstead : Forest → Forest → Cell → List Area → List Pair → Type 0

@@ -17,7 +17,6 @@ pub struct AreaIndex {
 
 impl Model for AreaIndex {
     ghost use Rattle.area_index.specs.Forests.{Forest, IsForest};
-
     ghost use Rattle.area_index.specs.contracts.trees.Tree as tree;
     ghost use Rattle.std.specs.Coded.{codes};
 

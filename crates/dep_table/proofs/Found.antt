@@ -1,5 +1,5 @@
 -- The readers that the index finds are those of the table, after few steps.
-use Rattle.std.proofs.Common.{◌≡◌, ℕ, ◌+◌, ◌*◌, ◌≤◌, Bool, true, false, cond, ◌&&◌, ◌||◌, List, [], ◌∷◌, ◌++◌, length, refl, ap, sym, ◌∙◌, subst, inl, inr, arith, eqb, flat_map}
+use Rattle.std.proofs.Common.{◌≡◌, ℕ, ◌+◌, ◌*◌, ◌^◌, ◌≤◌, Bool, true, false, cond, ◌&&◌, ◌||◌, List, [], ◌∷◌, ◌++◌, length, refl, ap, sym, ◌∙◌, subst, inl, inr, arith, eqb, flat_map}
 use Rattle.std.specs.Prelude.{map, Result, Ok, Err, IfOk}
 use Rattle.std.specs.declared.cmp.Ordering.{Ordering}
 use Rattle.std.specs.declared.cmp.Ordering.TheVariants.{Less, Equal, Greater}
@@ -10,6 +10,7 @@ use Rattle.std.specs.List.{AllByRecursion, list_any, filter, count_by}
 use Rattle.std.specs.List.Sorted.{IsStrictlySortedBy}
 use Rattle.std.specs.Map.{keys_of, lookup}
 use Rattle.std.proofs.lemmas.Bool.{or_cases, or_left, or_right, eq-eqb}
+use Rattle.std.proofs.lemmas.Bool.Decides.{leb_tells}
 use Rattle.std.proofs.lemmas.List.{map-append}
 use Rattle.std.proofs.lemmas.List.Folds.{list_any-append}
 use Rattle.std.proofs.lemmas.List.Sums.{length-filter}
@@ -17,7 +18,7 @@ use Rattle.std.proofs.lemmas.List.Kept.{IsStrictlySortedBy-filter}
 use Rattle.std.proofs.lemmas.Map.Keys.{IsDistinct-from_sorted}
 use Rattle.std.proofs.lemmas.Map.Made.{length-le_from_is_member}
 use Rattle.std.proofs.lemmas.Map.Views.{any-filter_same}
-use Rattle.std.proofs.Math.Nat.{mul-le-mul_right, mul-le-mul}
+use Rattle.std.proofs.Math.Nat.{mul-le-mul_right, mul-le-mul, pow-le-pow_right}
 use Rattle.cell_refs.specs.declared.areas.Area.{Area}
 use Rattle.cell_refs.specs.declared.grid.Cell.{Cell}
 use Rattle.cell_refs.specs.Area.{area_has, lies_in}
@@ -88,9 +89,9 @@ head_same : (x y : Cell) (xs ys : List Cell) → AllByRecursion (λ z. cell_cmp 
 head_same x y xs ys a b h k = elim (or_cases (same_cell x y) (is_among ys x) h) as (λ _. x ≡ y) [
   | inl same ↦ same_cell_is x y same
   | inr more ↦ elim (or_cases (same_cell y x) (is_among xs y) k) as (λ _. x ≡ y) [
-      | inl same ↦ sym (same_cell_is y x same)
-      | inr later ↦ not_both x y (x ≡ y) (member_above x y xs a later) (member_above y x ys b more)
-    ]
+    | inl same ↦ sym (same_cell_is y x same)
+    | inr later ↦ not_both x y (x ≡ y) (member_above x y xs a later) (member_above y x ys b more)
+  ]
 ]
 
 tail_among : (x q : Cell) (xs ys : List Cell) → AllByRecursion (λ z. cell_cmp x z ≡ Less) xs → is_among (x ∷ xs) q ≡ is_among (x ∷ ys) q → is_among xs q ≡ true → is_among ys q ≡ true
@@ -195,3 +196,18 @@ few-steps index table cell before after i w =
 pub if_ok : {A E : Type 0} (P Q : A → Type 0) → ((a : A) → P a → Q a) → (r : Result A E) → IfOk r P → IfOk r Q
 if_ok P Q f (Ok a) h = f a h
 if_ok P Q f (Err e) h = h
+
+levels_below : (levels n : ℕ) → n ≤ 10000 → 2 ^ levels ≤ (n + 1) * (n + 1) → levels ≤ 26
+levels_below levels n few h =
+    let square : (n + 1) * (n + 1) ≤ 10001 * 10001 = let k : n + 1 ≤ 10001 = omega arith in mul-le-mul k k in
+    elim (leb_tells levels 26) as (λ _. levels ≤ 26) [
+      | inl y ↦ y.1
+      | inr y ↦ let more : 27 ≤ levels = (let z = y.1 in omega arith) in let p : 2 ^ 27 ≤ 2 ^ levels = pow-le-pow_right (omega arith) more in absurd (omega arith)
+    ]
+
+-- the steps of few levels
+pub steps_below : (before after k n : ℕ) (levels : ℕ) → after ≤ before + 2 * ((k + 1) * levels) → 2 ^ levels ≤ (n + 1) * (n + 1) → n ≤ 10000 → k ≤ 1 → after ≤ before + 104
+steps_below before after k n levels s h few one =
+    let l = levels_below levels n few h in
+    let p : (k + 1) * levels ≤ 2 * 26 = (let j : k + 1 ≤ 2 = omega arith in mul-le-mul j l) in
+    omega arith

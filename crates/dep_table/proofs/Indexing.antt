@@ -95,7 +95,7 @@ pub indexed-put : (old new : Forest) (table other : List (Cell × List Area)) (r
 indexed-put old new table other reader areas pairs i instead made is ordered = record {
   ordered = ordered;
   pairs = λ p. instead p ∙ by_cells ((list_any (same_pair p) pairs || (not (names reader (areas_at table reader) p) && has_pair old p)) ≡ names p.reader (areas_at other p.reader) p) p.reader reader
-    (λ e.
+      (λ e.
       let had : has_pair old p ≡ names reader (areas_at table reader) p = i.pairs p ∙ ap (λ r. names r (areas_at table r) p) e in
       let now : areas_at other p.reader ≡ areas = ap (areas_at other) e ∙ ap (λ t. areas_at t reader) is ∙ ap (λ o. unwrap_or o []) (put-here reader areas table) in
       ap (λ b. list_any (same_pair p) pairs || (not (names reader (areas_at table reader) p) && b)) had
@@ -104,7 +104,7 @@ indexed-put old new table other reader areas pairs i instead made is ordered = r
       ∙ ap (list_any (same_pair p)) made
       ∙ any_map (same_pair p) reader areas
       ∙ sym (ap (λ as'. names p.reader as' p) now ∙ ap (λ r. names r areas p) e))
-    (λ apart.
+      (λ apart.
       let now : areas_at other p.reader ≡ areas_at table p.reader = ap (λ t. areas_at t p.reader) is ∙ ap (λ o. unwrap_or o []) (put-elsewhere reader areas p.reader apart table) in
       ap (λ b. b || (not (names reader (areas_at table reader) p) && has_pair old p)) (ap (list_any (same_pair p)) made ∙ any_map (same_pair p) reader areas ∙ names_other p reader areas apart)
       ∙ ap (λ b. not b && has_pair old p) (names_other p reader (areas_at table reader) apart)
@@ -117,13 +117,13 @@ pub indexed-removed : (old new : Forest) (table other : List (Cell × List Area)
 indexed-removed old new table other reader i less is ordered = record {
   ordered = ordered;
   pairs = λ p. less p ∙ by_cells ((not (names reader (areas_at table reader) p) && has_pair old p) ≡ names p.reader (areas_at other p.reader) p) p.reader reader
-    (λ e.
+      (λ e.
       let had : has_pair old p ≡ names reader (areas_at table reader) p = i.pairs p ∙ ap (λ r. names r (areas_at table r) p) e in
       let now : areas_at other p.reader ≡ [] = ap (areas_at other) e ∙ ap (λ t. areas_at t reader) is ∙ ap (λ o. unwrap_or o []) (taken reader reader table i.ordered ∙ ap (λ b. cond b None (lookup (same_cell reader) table)) (same_cells.refl reader)) in
       ap (λ b. not (names reader (areas_at table reader) p) && b) had
       ∙ not_and (names reader (areas_at table reader) p)
       ∙ sym (ap (λ as'. names p.reader as' p) now))
-    (λ apart.
+      (λ apart.
       let now : areas_at other p.reader ≡ areas_at table p.reader = ap (λ t. areas_at t p.reader) is ∙ ap (λ o. unwrap_or o []) (taken reader p.reader table i.ordered ∙ ap (λ b. cond b None (lookup (same_cell p.reader) table)) (same_cells.symm reader p.reader ∙ apart)) in
       ap (λ b. not b && has_pair old p) (names_other p reader (areas_at table reader) apart)
       ∙ i.pairs p

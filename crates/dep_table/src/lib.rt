@@ -2,6 +2,7 @@
 #![tactic(auto)]
 
 mod area_lists;
+pub mod laws;
 mod tables;
 #[cfg(test)]
 mod tests;
