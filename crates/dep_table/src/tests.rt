@@ -2,6 +2,7 @@ use super::DepTable;
 use cell_refs::{Area, COLUMNS, Cell, Memory, ROWS};
 use std::alloc::Global;
 use std::collections::BTreeMap;
+use std::process::Abort;
 use std::test::Fail;
 
 /// A cell of the first sheet.
@@ -90,6 +91,7 @@ fn a_reader_has_the_areas_that_were_put_last(rt: HostRuntime) -> Result<(), Fail
 }
 
 /// Numbers that look random, from a seed.
+#[derive(Drop)]
 struct Numbers {
     state: u64,
 }
@@ -178,24 +180,24 @@ fn plain_readers(
 }
 
 /// A list of random calls on a table and on a plain map, which answer alike.
-fn assert_alike(rt: &HostRuntime, seed: u64, calls: u32) -> Result<(), Fail> {
+fn assert_alike(rt: &impl Abort, alloc: Global, seed: u64, calls: u32) -> Result<(), Fail> {
     let mut numbers = Numbers { state: seed };
-    let mut table = DepTable::new(rt.alloc());
-    let mut plain = BTreeMap::new(rt.alloc());
+    let mut table = DepTable::new(alloc);
+    let mut plain = BTreeMap::new(alloc);
     for _ in 0..calls {
         let reader = numbers.cell();
         if numbers.below(3) == 0 {
             table.remove(reader);
             let _ = plain.remove(&reader);
         } else {
-            let areas = numbers.areas(rt.alloc())?;
+            let areas = numbers.areas(alloc)?;
             let copy = areas.clone()?;
             table.put(reader, areas).map_err(|_| "no memory")?;
             let _ = plain.insert(reader, copy).map_err(|_| "no memory")?;
         }
         let cell = numbers.cell();
-        let found = table.readers(rt.alloc(), cell)?;
-        let wanted = plain_readers(rt.alloc(), &plain, cell)?;
+        let found = table.readers(alloc, cell)?;
+        let wanted = plain_readers(alloc, &plain, cell)?;
         assert_eq!(rt; found.as_slice(), wanted.as_slice(), "of {cell:?}");
     }
     Ok(())
@@ -204,7 +206,7 @@ fn assert_alike(rt: &HostRuntime, seed: u64, calls: u32) -> Result<(), Fail> {
 #[test]
 fn random_calls_find_what_a_look_at_all_areas_finds(rt: HostRuntime) -> Result<(), Fail> {
     for seed in 1..9 {
-        assert_alike(&rt, seed, 400)?;
+        assert_alike(&rt, rt.alloc(), seed, 400)?;
     }
     Ok(())
 }
