@@ -1,18 +1,16 @@
 -- The trees of the sheets after a change: what holds of them, and which pairs are there.
-use Rattle.std.proofs.Common.{◌≡◌, ◌≢◌, ℕ, ◌+◌, ◌<◌, ◌≤◌, Bool, true, false, cond, ◌&&◌, ◌||◌, List, [], ◌∷◌, ◌++◌, refl, ap, sym, ◌∙◌, subst, nat_eq, arith}
+use Rattle.std.proofs.Common.{◌≡◌, ◌≢◌, ℕ, ◌+◌, ◌<◌, true, false, ◌&&◌, ◌||◌, List, [], refl, ap, sym, ◌∙◌, subst, nat_eq, arith}
 use Rattle.std.specs.Prelude.{not}
 use Rattle.std.specs.declared.cmp.Ordering.{Ordering}
 use Rattle.std.specs.declared.cmp.Ordering.TheVariants.{Less, Equal, Greater}
 use Rattle.std.specs.Ordering.{nat_cmp, ordering_then, is_eq}
 use Rattle.std.specs.Cmp.{IsEquivalence, eq_by_cmp_equiv}
-use Rattle.std.specs.List.{AllByRecursion, list_any, filter}
+use Rattle.std.specs.List.{list_any}
 use Rattle.std.specs.List.Sorted.{IsStrictlySortedBy}
-use Rattle.std.specs.BTreeSet.{insert_key}
 use Rattle.std.proofs.lemmas.List.Kept.{IsStrictlySortedBy-filter}
 use Rattle.std.proofs.lemmas.Map.Lookups.{CmpEqualImpliesEq, exact_pairs, exact_unsigned}
 use Rattle.std.proofs.lemmas.Map.Views.{any-filter_same}
 use Rattle.std.proofs.lemmas.Bool.{eqb-true, eqb-false}
-use Rattle.cell_refs.specs.declared.areas.Area.{Area}
 use Rattle.cell_refs.specs.declared.grid.Cell.{Cell}
 use Rattle.cell_refs.specs.Cell.{cell_cmp}
 use Rattle.cell_refs.proofs.PublicLaws.{exact_cells}
@@ -20,8 +18,8 @@ use Rattle.area_index.specs.declared.pairs.Pair.{Pair}
 use Rattle.area_index.specs.declared.trees.Tree.{Tree}
 use Rattle.area_index.specs.declared.trees.TheConstants.{LEVELS}
 use Rattle.area_index.specs.Pairs.{pair_cmp, pairs_total, same_pair}
-use Rattle.area_index.specs.Shapes.{Shape, empty, in_order, height_of, inserted, removed, IsLevel, IsOrdered}
-use Rattle.area_index.specs.Forests.{Forest, tree_in, pairs_on, has_pair, IsSheetTree, IsForest, ChangesAt}
+use Rattle.area_index.specs.Shapes.{Shape, empty, in_order, inserted, removed}
+use Rattle.area_index.specs.Forests.{tree_in, has_pair, IsSheetTree, IsForest, ChangesAt}
 use Rattle.area_index.proofs.Ordered.{all_insert, all_leave, sorted_insert, any_insert, differs}
 use Rattle.area_index.proofs.InOrder.{in_order-inserted, in_order-removed}
 use Rattle.area_index.proofs.Levels.{level-inserted, level-removed}

@@ -1,13 +1,13 @@
 -- What the walk finds.
 use Rattle.std.proofs.Common.{◌≡◌, ℕ, ◌+◌, ◌<◌, ◌≤◌, max, Bool, true, false, cond, ◌&&◌, List, [], ◌∷◌, ◌++◌, refl, ap, sym, ◌∙◌, subst, nat_lt, nat_le, arith, eqb}
 use Rattle.std.specs.Prelude.{map}
-use Rattle.std.proofs.lemmas.Bool.{lt-ltb, ltb-true, ltb-false, leb-true, leb-false}
-use Rattle.std.proofs.lemmas.List.{map-append, append-nil}
+use Rattle.std.proofs.lemmas.Bool.{ltb-true, leb-true}
+use Rattle.std.proofs.lemmas.List.{map-append}
 use Rattle.std.proofs.lemmas.List.Elements.{filter-append}
 use Rattle.std.proofs.lemmas.Map.Keys.{le_from_not_gt}
 use Rattle.std.specs.declared.cmp.Ordering.{Ordering}
 use Rattle.std.specs.declared.cmp.Ordering.TheVariants.{Less, Equal, Greater}
-use Rattle.std.specs.Ordering.{ordering_then, is_gt, nat_cmp}
+use Rattle.std.specs.Ordering.{ordering_then, is_gt}
 use Rattle.std.specs.List.{AllByRecursion, filter}
 use Rattle.cell_refs.specs.declared.grid.Cell.{Cell}
 use Rattle.cell_refs.specs.Area.{area_has}
@@ -15,7 +15,7 @@ use Rattle.area_index.specs.declared.pairs.Pair.{Pair}
 use Rattle.area_index.specs.Pairs.{pair_cmp}
 use Rattle.area_index.specs.Shapes.{Shape, empty, fork, in_order, bottom_of, IsLevel, IsOrdered}
 use Rattle.area_index.specs.Walk.{found, found_here, readers_at}
-use Rattle.area_index.proofs.Ordered.{sorted_front, sorted_back, back_above, front_below, drops, all_map, all_join}
+use Rattle.area_index.proofs.Ordered.{sorted_front, sorted_back, back_above, drops, all_map, all_join}
 
 not_after : (a b : Ordering) → is_gt (ordering_then a b) ≡ false → is_gt a ≡ false
 not_after Less b e = refl

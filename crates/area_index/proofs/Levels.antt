@@ -1,5 +1,5 @@
 -- Sides whose heights differ by at most one, after a change.
-use Rattle.std.proofs.Common.{◌≡◌, ℕ, ◌+◌, ◌-◌, ◌<◌, ◌≤◌, max, Bool, true, false, cond, refl, ap, sym, ◌∙◌, subst, nat_lt, nat_le, arith}
+use Rattle.std.proofs.Common.{◌≡◌, ℕ, ◌+◌, ◌-◌, ◌<◌, ◌≤◌, max, Bool, true, false, cond, refl, ap, nat_lt, nat_le, arith}
 use Rattle.std.proofs.lemmas.Bool.{lt-ltb, ltb-true, ltb-false, leb-true, leb-false}
 use Rattle.std.specs.declared.cmp.Ordering.{Ordering}
 use Rattle.std.specs.declared.cmp.Ordering.TheVariants.{Less, Equal, Greater}
@@ -7,7 +7,7 @@ use Rattle.std.specs.Ordering.{match_ordering}
 use Rattle.area_index.specs.declared.pairs.Pair.{Pair}
 use Rattle.area_index.specs.declared.trees.TheConstants.{LEVELS}
 use Rattle.area_index.specs.Pairs.{pair_cmp}
-use Rattle.area_index.specs.Shapes.{Shape, empty, fork, height_of, bottom_of, higher, node_of, raised, lean_left, lean_right, balanced, inserted, first_of, rest_of, joined, removed, IsLevel}
+use Rattle.area_index.specs.Shapes.{Shape, empty, fork, height_of, higher, node_of, raised, lean_left, lean_right, balanced, inserted, first_of, rest_of, joined, removed, IsLevel}
 
 -- one level more, where there is room
 higher_one : (h : ℕ) → h < LEVELS → higher h ≡ h + 1

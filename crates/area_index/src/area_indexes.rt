@@ -140,7 +140,7 @@ impl AreaIndex {
         ensures steps { IsBoundedWalk self.now cell steps.old steps.new }
     {
         let mut readers = self.find(alloc, cell, steps)?;
-        put_in_order(&mut readers)?;
+        put_in_order(&mut readers);
         Ok(readers)
     }
 }

@@ -59,15 +59,13 @@ pub fn new_nodes(alloc: Global, reader: Cell, areas: &[Area]) -> Result<Vec<Box<
     Ok(nodes)
 }
 
-/// Puts cells into cell order, each once.
-pub fn put_in_order(cells: &mut Vec<Cell>) -> Result<(), Memory>
-    ensures sorted { OnOk result (IsStrictlySortedBy cell_cmp cells.new.items) }
-    ensures same { OnOk result ((q : OneCell)
-        → is_among cells.new.items q ≡ is_among cells.old.items q) }
+/// Puts cells into cell order, each once. It takes no memory.
+pub fn put_in_order(cells: &mut Vec<Cell>)
+    ensures sorted { IsStrictlySortedBy cell_cmp cells.new.items }
+    ensures same { (q : OneCell) → is_among cells.new.items q ≡ is_among cells.old.items q }
 {
-    cells.sort()?;
+    cells.sort_unstable();
     cells.dedup();
-    Ok(())
 }
 
 /// The readers of the pairs whose area has a cell, as the walk through its sheet's tree finds them.

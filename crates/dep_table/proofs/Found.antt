@@ -27,10 +27,11 @@ use Rattle.cell_refs.proofs.PublicLaws.{cells_total, same_cell_is, same_cells}
 use Rattle.area_index.specs.declared.pairs.Pair.{Pair}
 use Rattle.area_index.specs.Pairs.{pair_cmp, same_pair}
 use Rattle.area_index.specs.Walk.{rows_have}
-use Rattle.area_index.specs.Forests.{Forest, has_pair, names, pair_at, pairs_on, levels_on, AreReadersAt, IsBoundedWalk}
+use Rattle.area_index.specs.Forests.{Forest, names, pair_at, pairs_on, levels_on, AreReadersAt, IsBoundedWalk}
 use Rattle.area_index.proofs.PublicLaws.{same_pair_is, same_pairs}
-use Rattle.dep_table.specs.Table.{IsInOrder, areas_at, readers_of}
-use Rattle.dep_table.specs.Indexed.{IsIndexed, IsFewSteps, areas_on, has_row}
+use Rattle.dep_table.specs.Table.{areas_at, readers_of}
+use Rattle.dep_table.specs.Indexed.{IsIndexed}
+use Rattle.dep_table.specs.Steps.{IsFewSteps, areas_on, has_row}
 use Rattle.dep_table.proofs.Readers.{readers_of-among}
 
 -- ---- which readers

@@ -1,30 +1,25 @@
 -- The index after the table's change, and the readers that it finds.
-use Rattle.std.proofs.Common.{◌≡◌, ℕ, Bool, true, false, cond, ◌&&◌, ◌||◌, Option, None, Some, List, [], ◌∷◌, ◌++◌, refl, ap, sym, ◌∙◌, subst, inl, inr}
+use Rattle.std.proofs.Common.{◌≡◌, Bool, true, false, cond, ◌&&◌, ◌||◌, None, Some, List, [], ◌∷◌, refl, ap, sym, ◌∙◌, subst}
 use Rattle.std.specs.Prelude.{map, not, Result, Ok, Err, OnOk, IfErr}
-use Rattle.std.specs.declared.cmp.Ordering.{Ordering}
 use Rattle.std.specs.declared.cmp.Ordering.TheVariants.{Less, Equal, Greater}
-use Rattle.std.specs.Ordering.{is_eq, match_ordering, ordering_reverse}
+use Rattle.std.specs.Ordering.{is_eq, match_ordering}
 use Rattle.std.specs.Option.{unwrap_or}
 use Rattle.std.specs.BTreeMap.{insert_entry}
-use Rattle.std.specs.Cmp.{both_ways}
-use Rattle.std.specs.List.{AllByRecursion, list_any, filter}
+use Rattle.std.specs.List.{list_any}
 use Rattle.std.specs.List.Sorted.{IsStrictlySortedBy}
 use Rattle.std.specs.Map.{keys_of, lookup, remove_entry}
-use Rattle.std.proofs.lemmas.Bool.{or_cases, or_left, or_right}
 use Rattle.std.proofs.lemmas.Map.{lookup-remove_entry}
 use Rattle.std.proofs.lemmas.Map.Keys.{IsDistinct-from_sorted}
 use Rattle.cell_refs.specs.declared.areas.Area.{Area}
 use Rattle.cell_refs.specs.declared.grid.Cell.{Cell}
-use Rattle.cell_refs.specs.Area.{area_has, lies_in}
-use Rattle.cell_refs.specs.Cell.{cell_cmp, is_among, same_cell}
-use Rattle.cell_refs.proofs.PublicLaws.{cells_total, same_cell_is, same_cells}
+use Rattle.cell_refs.specs.Cell.{cell_cmp, same_cell}
+use Rattle.cell_refs.proofs.PublicLaws.{same_cell_is, same_cells}
 use Rattle.area_index.specs.declared.pairs.Pair.{Pair}
 use Rattle.area_index.specs.Pairs.{same_pair}
-use Rattle.area_index.specs.Forests.{Forest, has_pair, names, pair_at, HasInstead, HasNoMore, HasNone, SamePairs, AreReadersAt}
-use Rattle.area_index.proofs.PublicLaws.{same_pair_is, same_pairs}
-use Rattle.dep_table.specs.Table.{IsInOrder, areas_at, readers_of}
+use Rattle.area_index.specs.Forests.{Forest, has_pair, names, pair_at, HasInstead, HasNoMore, HasNone, SamePairs}
+use Rattle.area_index.proofs.PublicLaws.{same_pair_is}
+use Rattle.dep_table.specs.Table.{IsInOrder, areas_at}
 use Rattle.dep_table.specs.Indexed.{IsIndexed}
-use Rattle.dep_table.proofs.Readers.{readers_of-among}
 
 by_cells : (P : Type 0) (a b : Cell) → (a ≡ b → P) → (same_cell a b ≡ false → P) → P
 by_cells P a b same apart = elim (same_cell a b) as (λ t. same_cell a b ≡ t → P) [

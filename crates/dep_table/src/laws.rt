@@ -1,6 +1,6 @@
 //! Laws of the table: contracts of functions that only call it.
 ghost use Rattle.std.specs.Prelude.{◌≡◌, ◌+◌, ◌≤◌, IfOk, count_by, length};
-ghost use Rattle.dep_table.specs.Indexed.{areas_on, has_row};
+ghost use Rattle.dep_table.specs.Steps.{areas_on, has_row};
 ghost use Rattle.dep_table.specs.Table.{readers_of};
 
 use super::tables::DepTable;

@@ -3,7 +3,7 @@ ghost use Rattle.std.specs.BTreeMap.{insert_entry};
 ghost use Rattle.std.specs.Map.{remove_entry};
 ghost use Rattle.cell_refs.specs.Cell.{cell_cmp, same_cell};
 ghost use Rattle.area_index.specs.Forests.{HasInstead, IsReady, pairs_of};
-ghost use Rattle.dep_table.specs.Indexed.{IsFewSteps};
+ghost use Rattle.dep_table.specs.Steps.{IsFewSteps};
 ghost use Rattle.dep_table.specs.Table.{IsInOrder, areas_at, is_reader, readers_of};
 
 use super::area_lists::AreaList;

@@ -8,10 +8,10 @@ use Rattle.area_index.proofs.Readers.{among-dedup}
 use Rattle.area_index.proofs.indexes.put_in_order.Goals as goal
 
 pub returns-clause-sorted : goal.returns-clause-sorted
-returns-clause-sorted c = rw (dedup_is same_cell c.sort.new.self.items c.dedup.new.self.items c.dedup.ensures.filtered) (IsStrictlySortedBy-dedup cells_total (λ x y. refl) c.sort.new.self.items c.in_ok-sort.ensures.sorted)
+returns-clause-sorted c = rw (dedup_is same_cell c.sort_unstable.new.self.items c.dedup.new.self.items c.dedup.ensures.filtered) (IsStrictlySortedBy-dedup cells_total (λ x y. refl) c.sort_unstable.new.self.items c.sort_unstable.ensures.sorted)
 
 pub returns-clause-same : goal.returns-clause-same
 returns-clause-same c q =
-    ap (λ xs. is_among xs q) (dedup_is same_cell c.sort.new.self.items c.dedup.new.self.items c.dedup.ensures.filtered)
-    ∙ among-dedup c.sort.new.self.items q
-    ∙ sym (list_any-IsPermutation (same_cell q) c.args.cells.now.items c.sort.new.self.items c.sort.ensures.permutation)
+    ap (λ xs. is_among xs q) (dedup_is same_cell c.sort_unstable.new.self.items c.dedup.new.self.items c.dedup.ensures.filtered)
+    ∙ among-dedup c.sort_unstable.new.self.items q
+    ∙ sym (list_any-IsPermutation (same_cell q) c.args.cells.now.items c.sort_unstable.new.self.items c.sort_unstable.ensures.permutation)

@@ -1,6 +1,6 @@
 use Rattle.std.proofs.Common.{◌≡◌, subst, arith}
 use Rattle.std.specs.Prelude.{IfOk}
-use Rattle.area_index.specs.Forests.{tree_in, IsSheetTree}
+use Rattle.area_index.specs.Forests.{tree_in}
 use Rattle.area_index.proofs.Bounds.{visits-le, levels-le}
 use Rattle.area_index.proofs.Found.{found-is}
 use Rattle.area_index.proofs.Readers.{own_pairs}
