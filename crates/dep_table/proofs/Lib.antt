@@ -1,3 +1,5 @@
 -- Laws of the dependency table.
 mod Readers
+mod Indexing
+mod Found
 pub mod PublicLaws

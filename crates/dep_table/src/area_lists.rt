@@ -1,7 +1,6 @@
 ghost use Rattle.std.specs.Prelude.{◌≡◌};
-ghost use Rattle.cell_refs.specs.Area.{lies_in};
 
-use cell_refs::{Area, Cell};
+use cell_refs::Area;
 use std::marker::Model;
 
 /// The areas that a formula names, in the order in which they are written.
@@ -39,12 +38,5 @@ impl AreaList {
         ensures { result.now ≡ self.now }
     {
         self.areas.as_slice()
-    }
-
-    /// Whether a cell lies in one of the areas.
-    pub fn has(&self, cell: Cell) -> bool
-        ensures { result ≡ lies_in self.now cell }
-    {
-        self.areas.iter().any(|area| area.contains(cell))
     }
 }

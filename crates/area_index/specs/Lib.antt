@@ -1,0 +1,6 @@
+-- What the crate's own functions keep.
+pub mod Forests
+pub mod Pairs
+pub mod Shapes
+pub mod Views
+pub mod Walk
