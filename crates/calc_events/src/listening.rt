@@ -115,7 +115,8 @@ ghost use Rattle.std.specs.Prelude.{List, drop};
 
 /// Whether a listener of this name is there.
 fn knows(seen: &IndexMap<String, usize>, name: &str) -> bool
-    ensures { (fired : List OneEvent) → result ≡ has_listener (listeners_of fired seen.now.entries) name.now }
+    ensures { (fired : List OneEvent) → result
+        ≡ has_listener (listeners_of fired seen.now.entries) name.now }
 {
     seen.contains_key(name)
 }
@@ -127,9 +128,11 @@ fn add(
     name: &str,
     count: usize,
 ) -> Result<(), Memory>
-    requires { (fired : List OneEvent) → has_listener (listeners_of fired seen.old.entries) name.now ≡ false }
+    requires { (fired : List OneEvent)
+        → has_listener (listeners_of fired seen.old.entries) name.now ≡ false }
     ensures ok { OnOk result ((fired : List OneEvent) → listeners_of fired seen.new.entries
-        ≡ listeners_of fired seen.old.entries ++ (record { name = name.now; events = drop count fired }) ∷ []) }
+        ≡ listeners_of fired seen.old.entries
+        ++ (record { name = name.now; events = drop count fired }) ∷ []) }
     ensures within { OnOk result ((fired : List OneEvent) → AreSeen fired seen.old.entries
         → count ≤ length fired → AreSeen fired seen.new.entries) }
     ensures refused { OnErr result (seen.new.entries ≡ seen.old.entries) }
@@ -148,7 +151,8 @@ fn seen_by(seen: &IndexMap<String, usize>, fired: &[Event], name: &str) -> Optio
     ensures within { IfSome result (λ count. count ≤ length fired.now) }
     ensures events { IfSome result (λ count. drop count fired.now
         ≡ events_of (listeners_of fired.now seen.now.entries) name.now) }
-    ensures none { IfNone result (listeners_after_fetch (listeners_of fired.now seen.now.entries) name.now
+    ensures none { IfNone result
+        (listeners_after_fetch (listeners_of fired.now seen.now.entries) name.now
         ≡ listeners_of fired.now seen.now.entries) }
 {
     seen.get(name).copied()
@@ -156,7 +160,8 @@ fn seen_by(seen: &IndexMap<String, usize>, fired: &[Event], name: &str) -> Optio
 
 /// Notes that a listener has seen so many events.
 fn set_seen(seen: &mut IndexMap<String, usize>, name: &str, count: usize)
-    ensures set { (fired : List OneEvent) → length fired ≡ count → listeners_of fired seen.new.entries
+    ensures set { (fired : List OneEvent) → length fired ≡ count
+        → listeners_of fired seen.new.entries
         ≡ listeners_after_fetch (listeners_of fired seen.old.entries) name.now }
     ensures within { (fired : List OneEvent) → AreSeen fired seen.old.entries
         → count ≤ length fired → AreSeen fired seen.new.entries }
