@@ -27,9 +27,13 @@ done
 for order in forward backward; do
     print_seconds "chain $order" "$(time_of chain.sh $order)"
 done
+
+# Prints the time of each of 2,000 edits behind a name: that of a script with them, less that of the same without them.
+print_edits() {
+    awk -v name="$1" -v ns="$(($3 - $2))" 'BEGIN { printf "%s: %.1f microseconds each\n", name, ns / 2000 / 1e3 }'
+}
+
 for size in 1000 10000 50000; do
-    without=$(time_of edits.sh $size 0)
-    with=$(time_of edits.sh $size 2000)
-    awk -v size=$size -v ns="$((with - without))" \
-        'BEGIN { printf "edits in a book of %d: %.1f microseconds each\n", size, ns / 2000 / 1e3 }'
+    print_edits "edits in a book of $size" "$(time_of edits.sh $size 0)" "$(time_of edits.sh $size 2000)"
 done
+print_edits "edits under windows" "$(time_of windows.sh 0)" "$(time_of windows.sh 2000)"
