@@ -1,6 +1,6 @@
 //! A server in memory.
 
-ghost use Rattle.std.specs.Prelude.{◌≡◌, None, Some, IfOk, OnOk, OnErr, map};
+ghost use Rattle.std.specs.Prelude.{◌≡◌, None, Some, IfOk, OnOk, OnErr, is_some, map};
 ghost use Rattle.rtd_server.specs.Board.{HasRoom, is_fresh_at, opening_at};
 ghost use Rattle.rtd_server.specs.Feed.{server_of};
 ghost use Rattle.rtd_server.specs.Links.{connected_at};
@@ -40,6 +40,13 @@ impl Feed {
             board: Board::new(alloc),
             links: Links::new(alloc),
         }
+    }
+
+    /// Whether an id is connected.
+    pub fn is_connected(&self, id: u64) -> bool
+        ensures { result ≡ is_some (connected_at self.now.links id) }
+    {
+        self.links.strings(id).is_some()
     }
 
     /// What is published for the strings of an id.

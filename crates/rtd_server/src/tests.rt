@@ -64,6 +64,9 @@ fn take_step(rt: &impl Abort, alloc: Global, feed: &mut Feed, step: &Step) -> Re
         Step::Open => feed.open_round(),
         Step::Connect(id, text, want) => {
             let strings = strings(alloc, text)?;
+            if feed.is_connected(*id) {
+                return Err(Fail::from("an id that is connected"));
+            }
             assert!(rt; feed.connect_data(*id, &strings)? == number_or_na(*want));
         }
         Step::Disconnect(id) => feed.disconnect_data(*id)?,
