@@ -75,6 +75,15 @@ fn take_step(rt: &impl Abort, alloc: Global, feed: &mut Feed, step: &Step) -> Re
     Ok(())
 }
 
+/// Does steps on a new feed.
+fn take_steps(rt: &impl Abort, alloc: Global, steps: &[Step]) -> Result<(), Fail> {
+    let mut feed = new_feed(alloc)?;
+    for step in steps.iter() {
+        take_step(rt, alloc, &mut feed, step)?;
+    }
+    Ok(())
+}
+
 #[test]
 fn a_feed_shows_what_was_published_at_the_opening(rt: HostRuntime) -> Result<(), Fail> {
     let alloc = rt.alloc();
@@ -115,10 +124,7 @@ fn a_feed_shows_what_was_published_at_the_opening(rt: HostRuntime) -> Result<(),
             Step::Refresh(&[(3, 7), (4, 7)]),
         ],
     ] {
-        let mut feed = new_feed(alloc)?;
-        for step in steps {
-            take_step(&rt, alloc, &mut feed, step)?;
-        }
+        take_steps(&rt, alloc, steps)?;
     }
     Ok(())
 }
