@@ -4,7 +4,7 @@ mod Finishing
 mod Jobs
 mod Readings
 mod Samples
+mod TopicsRead
 mod Unknowns
-mod Valuing
 mod Working
 pub mod PublicLaws

@@ -13,7 +13,7 @@ use Rattle.workbook.specs.Reads.{cell_reads}
 use Rattle.calc_round.specs.Noting.{NotesSome, NotesTopics}
 use Rattle.calc_round.specs.Readings.{ReadsFollow}
 use Rattle.calc_round.specs.Rounds.{topic_setting}
-use Rattle.calc_round.proofs.Valuing.{notes-some}
+use Rattle.calc_round.proofs.TopicsRead.{notes-some}
 
 module _ (answer : List ℕ → List Value → Value) (book : List (Cell × Content)) (old new : SourceState) (cell : Cell) (is_read : Topic → Bool)
     (values : KeepsValues old new) (reads : (t : Topic) → cell_reads (topic_setting answer old.snapshot) book cell t ≡ is_read t) where

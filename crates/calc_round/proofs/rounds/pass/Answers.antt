@@ -4,7 +4,7 @@ use Rattle.calc_round.specs.Looks.{Finishes}
 use Rattle.calc_round.specs.Rounds.{IsWorking, PresentMeans, topic_setting}
 use Rattle.calc_round.proofs.Chains.{as_many}
 use Rattle.calc_round.proofs.Finishing.{kept-finished, kept-same, kept-then}
-use Rattle.calc_round.proofs.Valuing.{values-then}
+use Rattle.calc_round.proofs.TopicsRead.{values-then}
 use Rattle.calc_round.proofs.Working.{look-open, looked, looked-finished, stuck-next}
 use Rattle.calc_round.proofs.rounds.pass.Goals as goal
 

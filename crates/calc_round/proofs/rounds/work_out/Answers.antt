@@ -3,7 +3,7 @@ use Rattle.cell_refs.specs.Cell.{is_among}
 use Rattle.calc_round.specs.Rounds.{IsWorking, topic_setting}
 use Rattle.calc_round.proofs.Chains.{few-due}
 use Rattle.calc_round.proofs.Finishing.{kept-none, kept-then}
-use Rattle.calc_round.proofs.Valuing.{values-none, values-then}
+use Rattle.calc_round.proofs.TopicsRead.{values-none, values-then}
 use Rattle.calc_round.proofs.Working.{due-again, few-pending, pass-ended, rest-again, working-ended}
 use Rattle.calc_round.proofs.rounds.work_out.Goals as goal
 
