@@ -69,11 +69,10 @@ module _ (world : World) (snapshot : Topic → Value) (tree : Node) where
   -- those that are known are among them
   behind_has : (more : ℕ) (topics : List Topic) (t : Topic) → is_listed topics t ≡ true → is_listed (topics_behind world snapshot tree more topics) t ≡ true
   behind_has zero topics t h = h
-  behind_has (suc more) topics t h = either (next_of topics)
-    where
-      either : (o : Option Topic) → is_listed (option_map_or (λ s. topics_behind world snapshot tree more (topics ++ s ∷ [])) o topics) t ≡ true
-      either None = h
-      either (Some s) = behind_has more (topics ++ s ∷ []) t (list_any-append (same_topic t) topics (s ∷ []) ∙ or_left (is_listed topics t) _ h)
+  behind_has (suc more) topics t h = elim (next_of topics) as (λ o. is_listed (option_map_or (λ s. topics_behind world snapshot tree more (topics ++ s ∷ [])) o topics) t ≡ true) [
+    | None ↦ h
+    | Some s ↦ behind_has more (topics ++ s ∷ []) t (list_any-append (same_topic t) topics (s ∷ []) ∙ or_left (is_listed topics t) _ h)
+  ]
 
   -- where one is needed there are more
   some_behind : (more : ℕ) (topics : List Topic) (topic : Topic) → topics_read world snapshot tree ≡ topics_behind world snapshot tree more topics
@@ -229,7 +228,7 @@ module _ (answer : List ℕ → List Value → Value) (first : Job) (old : Sourc
 
     -- fewer topics are left
     count_known : length job.topics ≡ length has.topics
-    count_known = ap (λ (j : Job). length j.topics) has.is ∙ length-map (λ (t : Topic). (t, old.snapshot t)) has.topics
+    count_known = ap (λ (j : Job). length j.topics) has.is ∙ length-map has.topics (λ t. (t, old.snapshot t))
 
     pub fewer-left : (new : Job) (topic : Topic) (value : Value) → Needs topic ≡ answer_of (world_of answer job) job.tree
         → new ≡ record job { topics = job.topics ++ (topic, value) ∷ [] }
