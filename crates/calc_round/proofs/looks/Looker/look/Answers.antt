@@ -10,14 +10,14 @@ use Rattle.calc_round.proofs.looks.Looker.look.Goals as goal
 pub unreachable-requires : goal.unreachable-requires
 unreachable-requires g c =
     let meant = job-value g.F.AddIns.answer (g.T.TopicSource.state c.args.topics.now).snapshot c.args.self.now.book.now.contents c.requires.ordered c.args.store.now c.requires.means
-    c.args.cell c.in-Some.job (rw c.in-Some.is at c.in_ok-job.ensures.job) _ c.in_ok-value_of_job.ensures.value in
+    c.args.cell c.in-Some.job (rw c.in-Some.is at c.in_ok-job.ensures.job) _ c.in_ok-value.ensures.value in
     let no = sym c.in-None.is ∙ meant.1 in
     cc
 
 pub returns-clause-finished : goal.returns-clause-finished
 returns-clause-finished g c _ =
     let meant = job-value g.F.AddIns.answer (g.T.TopicSource.state c.args.topics.now).snapshot c.args.self.now.book.now.contents c.requires.ordered c.args.store.now c.requires.means
-    c.args.cell c.in-Some.job (rw c.in-Some.is at c.in_ok-job.ensures.job) _ c.in_ok-value_of_job.ensures.value in
+    c.args.cell c.in-Some.job (rw c.in-Some.is at c.in_ok-job.ensures.job) _ c.in_ok-value.ensures.value in
     let told = sym meant.1 ∙ c.in-Some-2.is in
     let same : meant.0 ≡ c.in-Some-2.value = cc in
     (c.in-Some-2.value, meant.2 ∙ ap Val same, c.finish.ensures.present)
@@ -33,10 +33,10 @@ returns-clause-reads g c =
     follow-finished g.F.AddIns.answer book old new c.args.cell is_read c.value_of_job.ensures.values
     (job-reads g.F.AddIns.answer old.snapshot book c.requires.ordered c.args.store.now c.requires.means c.args.cell job is)
     c.args.store.now c.finish.new.self c.in-Some-2.value c.requires.reads
-    (subst (λ reader. NotesTopics old new reader is_read) is.home c.in_ok-value_of_job.ensures.noted) c.finish.ensures.present
+    (subst (λ reader. NotesTopics old new reader is_read) is.home c.in_ok-value.ensures.noted) c.finish.ensures.present
 
-pub returns-in_err-value_of_job-clause-reads : goal.returns-in_err-value_of_job-clause-reads
-returns-in_err-value_of_job-clause-reads g c =
+pub returns-in_err-value-clause-reads : goal.returns-in_err-value-clause-reads
+returns-in_err-value-clause-reads g c =
     let old = g.T.TopicSource.state c.args.topics.now in
     let new = g.T.TopicSource.state c.value_of_job.new.topics in
     let book = c.args.self.now.book.now.contents in
