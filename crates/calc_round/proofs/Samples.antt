@@ -11,7 +11,6 @@ use Rattle.cell_refs.specs.Cell.{is_among, same_cell}
 use Rattle.cell_refs.proofs.PublicLaws.{same_cell_is, same_cells}
 use Rattle.cell_store.specs.Gathering.{has_no_value}
 use Rattle.cell_store.specs.Store.{GainsTouched, PutsPresent, StoreState, is_touched, present_at}
-use Rattle.cell_values.specs.declared.topics.Topic.{Topic}
 use Rattle.cell_values.specs.declared.values.Value.{Value}
 use Rattle.cell_values.specs.declared.values.Value.TheVariants as values
 use Rattle.formula_parse.specs.declared.nodes.Node.{Node}
