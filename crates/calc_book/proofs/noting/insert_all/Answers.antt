@@ -1,6 +1,6 @@
 use Rattle.std.proofs.Common.{rules, ◌<◌, length}
 use Rattle.calc_book.proofs.BeginningLoops.{inserted-more}
-use Rattle.calc_book.proofs.beginning.insert_all.Goals as goal
+use Rattle.calc_book.proofs.noting.insert_all.Goals as goal
 
 pub loop-cell-preserved : goal.loop-cell-preserved
 loop-cell-preserved c =
