@@ -44,13 +44,13 @@ pub ok-both : {A E : Type 0} (r : Result A E) (P P' Q : Type 0) → (P → P' �
 ok-both (Ok x) P P' Q leads h k = leads h k
 ok-both (Err e) P P' Q leads h k = tt
 
-pub if-leads : {A E : Type 0} (r : Result A E) (P Q : A → Type 0) → ((x : A) → P x → Q x) → IfOk r P → IfOk r Q
-if-leads (Ok x) P Q leads h = leads x h
-if-leads (Err e) P Q leads h = tt
-
 pub if-on : {A E : Type 0} (r : Result A E) (R : Type 0) (P Q : A → Type 0) → (R → (x : A) → P x → Q x) → OnOk r R → IfOk r P → IfOk r Q
 if-on (Ok x) R P Q leads k h = leads k x h
 if-on (Err e) R P Q leads k h = tt
+
+pub if-both : {A E : Type 0} (r : Result A E) (R S : Type 0) (P Q : A → Type 0) → (R → S → (x : A) → P x → Q x) → OnOk r R → OnOk r S → IfOk r P → IfOk r Q
+if-both (Ok x) R S P Q leads k l h = leads k l x h
+if-both (Err e) R S P Q leads k l h = tt
 
 pub err-leads : {A E : Type 0} (r : Result A E) (P Q : Type 0) → (P → Q) → OnErr r P → OnErr r Q
 err-leads (Ok x) P Q leads h = tt

@@ -1,9 +1,9 @@
 -- Cells that are noted as changed.
-use Rattle.std.proofs.Common.{◌≡◌, Bool, true, false, not, cond, ◌||◌, ◌&&◌, List, [], ◌∷◌, ◌++◌, Option, None, Some, is_some, Result, Ok, Err, OnOk, OnErr, ⊎_elim, inl, inr, refl, ap, sym, subst, ◌∙◌}
-use Rattle.std.specs.List.{filter}
+use Rattle.std.proofs.Common.{◌≡◌, ℕ, zero, suc, ◌+◌, ◌<◌, length, take, Bool, true, false, not, cond, ◌||◌, ◌&&◌, List, [], ◌∷◌, ◌++◌, Option, None, Some, is_some, Result, Ok, Err, OnOk, OnErr, ⊎_elim, inl, inr, refl, ap, sym, subst, ◌∙◌}
+use Rattle.std.specs.List.{filter, slice_index_or}
 use Rattle.std.specs.Map.{keys_of}
-use Rattle.std.proofs.lemmas.Bool.{and_parts, false_from_ne_true, not-true, or_right}
-use Rattle.std.proofs.lemmas.List.Folds.{list_any-append}
+use Rattle.std.proofs.lemmas.Bool.{and_parts, false_from_ne_true, not-true, or_cases, or_left, or_right}
+use Rattle.std.proofs.lemmas.List.Folds.{list_any-append, list_any_more}
 use Rattle.std.proofs.lemmas.Map.Entries.{lookup-filter-values, option_filter}
 use Rattle.std.proofs.lemmas.Map.Keys.{IsDistinct-from_sorted}
 use Rattle.std.proofs.lemmas.Map.Made.{is_some-lookup}
@@ -100,6 +100,54 @@ taken-back old mid now new cells is others removes q = elim (is_among new q) as 
       ∙ sym (not-true (is_among old q) (and_parts (is_among cells q) (not (is_among old q)) (sym (ap (λ cs. is_among cs q) is ∙ among-filter (λ c. not (is_among old c)) cells q) ∙ h)).1)
   | false ↦ λ h. removes q ∙ ap (λ b. is_among mid q && not b) h ∙ and_all (is_among mid q) ∙ others q h
 ] refl
+
+-- ---- cell by cell
+-- what is among some of the cells is among them
+taken_among : (q : Cell) (cells : List Cell) (n : ℕ) → is_among (take n cells) q ≡ true → is_among cells q ≡ true
+taken_among q cells zero h = cc
+taken_among q [] (suc n) h = h
+taken_among q (c ∷ cells) (suc n) h =
+    ⊎_elim (λ here. or_left (same_cell q c) _ here) (λ later. or_right (same_cell q c) _ (taken_among q cells n later)) (or_cases (same_cell q c) _ h)
+
+-- a cell of another list stays as it was
+pub others-kept : (first old now cells : List Cell) (i : ℕ) → ((q : Cell) → is_among old q ≡ (is_among first q || is_among (take i cells) q)) → now ≡ old
+    → (q : Cell) → is_among cells q ≡ false → is_among now q ≡ is_among first q
+others-kept first old now cells i so_far same q none =
+    ap (λ cs. is_among cs q) same ∙ so_far q
+    ∙ ap (λ b. is_among first q || b) (false_from_ne_true (is_among (take i cells) q) (λ here. not_both (is_among cells q) (taken_among q cells i here) none))
+    ∙ or_none (is_among first q)
+  where
+    or_none : (b : Bool) → (b || false) ≡ b
+    or_none true = refl
+    or_none false = refl
+
+-- as above, where all are put in
+pub others-put : (first now cells : List Cell) → ((q : Cell) → is_among now q ≡ (is_among first q || is_among cells q))
+    → (q : Cell) → is_among cells q ≡ false → is_among now q ≡ is_among first q
+others-put first now cells puts q none = puts q ∙ ap (λ b. is_among first q || b) none ∙ or_none (is_among first q)
+  where
+    or_none : (b : Bool) → (b || false) ≡ b
+    or_none true = refl
+    or_none false = refl
+
+take_out : (b a t : Bool) → cond b false (a && not t) ≡ (a && not (t || b))
+take_out true true true = refl
+take_out true true false = refl
+take_out true false t = refl
+take_out false true true = refl
+take_out false true false = refl
+take_out false false t = refl
+
+-- one more cell is taken out
+pub removed-more : (first old new cells : List Cell) (i : ℕ) (d : Cell) → i < length cells
+    → ((q : Cell) → is_among new q ≡ cond (same_cell (slice_index_or cells i d) q) false (is_among old q))
+    → ((q : Cell) → is_among old q ≡ (is_among first q && not (is_among (take i cells) q)))
+    → (q : Cell) → is_among new q ≡ (is_among first q && not (is_among (take (i + 1) cells) q))
+removed-more first old new cells i d below removes before q =
+    removes q ∙ ap (λ b. cond (same_cell (slice_index_or cells i d) q) false b) (before q)
+    ∙ take_out (same_cell (slice_index_or cells i d) q) (is_among first q) (is_among (take i cells) q)
+    ∙ ap (λ b. is_among first q && not (is_among (take i cells) q || b)) (same_cells.symm (slice_index_or cells i d) q)
+    ∙ ap (λ b. is_among first q && not b) (sym (list_any_more (same_cell q) cells i d below))
 
 -- ---- the callers of RTD
 calls_alike : (o : Option Content) → is_some (option_filter (λ x. by_content (λ v. false) has_rtd_call (Some x)) o) ≡ by_content (λ v. false) has_rtd_call o

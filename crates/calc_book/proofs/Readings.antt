@@ -7,7 +7,8 @@ use Rattle.calc_book.specs.CalcState.{CalcState}
 use Rattle.calc_book.specs.Keeping.{Answers, InRound, NotesCleanReaders, NotesReaders, ReadsInRound, is_forgotten, reads_served}
 use Rattle.calc_book.specs.declared.calc_books.CalcBook.{CalcBook}
 use Rattle.calc_book.proofs.BeginningMeans.{formula-some, three}
-use Rattle.calc_round.specs.Rounds.{IsWorkedOut, ReadsFollow, topic_setting}
+use Rattle.calc_round.specs.Readings.{ReadsFollow}
+use Rattle.calc_round.specs.Rounds.{IsWorkedOut, topic_setting}
 use Rattle.cell_refs.specs.declared.grid.Cell.{Cell}
 use Rattle.cell_refs.specs.Cell.{is_among}
 use Rattle.cell_store.specs.Gathering.{has_no_value}

@@ -4,7 +4,8 @@ use Rattle.std.specs.Option.{option_map}
 use Rattle.book_sync.specs.Following.{ShowsWhereClean, TableFollows}
 use Rattle.calc_book.specs.CalcState.{CalcState}
 use Rattle.calc_book.specs.declared.calc_books.CalcBook.{CalcBook}
-use Rattle.calc_round.specs.Rounds.{IsWorking, ReadsFollow, topic_setting}
+use Rattle.calc_round.specs.Readings.{ReadsFollow}
+use Rattle.calc_round.specs.Rounds.{IsWorking, topic_setting}
 use Rattle.cell_refs.specs.declared.grid.Cell.{Cell}
 use Rattle.cell_refs.specs.Cell.{is_among}
 use Rattle.cell_store.specs.Store.{shown_at}

@@ -18,10 +18,11 @@ pub fn note_all(alloc: Global, changed: &mut BTreeSet<Cell>, cells: &[Cell]) -> 
     ensures refused { OnErr result (HasSameCells changed.old.keys changed.new.keys) }
 {
     let new = not_noted(alloc, changed, cells)?;
-    match insert_all(changed, new.as_slice()) {
+    let fresh = new.as_slice();
+    match insert_all(changed, fresh) {
         Ok(()) => Ok(()),
         Err(memory) => {
-            remove_all(changed, new.as_slice());
+            remove_all(changed, fresh);
             Err(memory)
         }
     }
@@ -38,11 +39,18 @@ fn not_noted(
 {
     let mut new = Vec::new(alloc);
     for cell in cells {
-        if !changed.contains(cell) {
+        if !is_noted(changed, *cell) {
             new.push(*cell)?;
         }
     }
     Ok(new)
+}
+
+/// Whether a cell is noted as changed.
+fn is_noted(changed: &BTreeSet<Cell>, cell: Cell) -> bool
+    ensures { result ≡ is_among changed.now.keys cell }
+{
+    changed.contains(&cell)
 }
 
 /// A set of the changed cells and of these.

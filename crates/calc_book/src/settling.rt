@@ -1,7 +1,8 @@
 //! The end of a recalculation: all that is due is evaluated, and the sheet shows what came out.
 
 ghost use Rattle.std.specs.Prelude.{◌≡◌, ◌<◌, [], OnOk};
-ghost use Rattle.calc_round.specs.Rounds.{HasSameCells, IsWorkedOut, IsWorking, KeepsFinished, ReadsFollow, topic_setting};
+ghost use Rattle.calc_round.specs.Readings.{ReadsFollow};
+ghost use Rattle.calc_round.specs.Rounds.{HasSameCells, IsWorkedOut, IsWorking, KeepsFinished, topic_setting};
 ghost use Rattle.topic_source.specs.Source.{KeepsValues};
 
 use addin_types::AddIns;
