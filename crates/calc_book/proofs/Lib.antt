@@ -4,6 +4,7 @@ mod SheetLaws
 mod SettleLaws
 mod Readings
 mod NotingLaws
+mod Samples
 mod BeginningLists
 mod BeginningMeans
 mod BeginningLoops

@@ -222,7 +222,8 @@ impl CalcBook {
         ensures { (answer : Answers) (now : OneTopic → OneValue) (s : CalcState)
             → InRound answer now self.old s → AtRest answer self.new s }
     {
-        self.marks.clear();
+        // Cells that were evaluated are stale still, so that the next recalculation evaluates them again.
+        self.marks = Marks::new(self.alloc);
     }
 
     /// What the sheet shows: the cells with content at the last completed recalculation, in cell order.
