@@ -123,11 +123,7 @@ pub fn make_all_due(
 }
 
 /// The marked and the changed cells, each once.
-fn both_of(
-    alloc: Global,
-    changed: &BTreeSet<Cell>,
-    marks: &Marks,
-) -> Result<Vec<Cell>, Memory>
+fn both_of(alloc: Global, changed: &BTreeSet<Cell>, marks: &Marks) -> Result<Vec<Cell>, Memory>
     ensures { IfOk result (λ both. AreBoth marks.now changed.now.keys both.items) }
 {
     let Ok(mut both) = marks.list(alloc) else {

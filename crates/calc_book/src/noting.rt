@@ -29,11 +29,7 @@ pub fn note_all(alloc: Global, changed: &mut BTreeSet<Cell>, cells: &[Cell]) -> 
 }
 
 /// Those of some cells that aren't noted as changed.
-fn not_noted(
-    alloc: Global,
-    changed: &BTreeSet<Cell>,
-    cells: &[Cell],
-) -> Result<Vec<Cell>, Memory>
+fn not_noted(alloc: Global, changed: &BTreeSet<Cell>, cells: &[Cell]) -> Result<Vec<Cell>, Memory>
     ensures { IfOk result (λ new. new.items
         ≡ filter (λ q. not (is_among changed.now.keys q)) cells.now) }
 {

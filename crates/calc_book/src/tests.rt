@@ -54,11 +54,7 @@ impl TopicSource for Feed {
 }
 
 /// Puts a reading behind the others.
-fn keep_reading(
-    readings: &mut Vec<(Topic, Cell)>,
-    topic: Topic,
-    reader: Cell,
-) -> Result<(), Memory>
+fn keep_reading(readings: &mut Vec<(Topic, Cell)>, topic: Topic, reader: Cell) -> Result<(), Memory>
     ensures ok { OnOk result
         (readings.new.items ≡ readings.old.items ++ (topic, reader) ∷ []) }
     ensures refused { OnErr result (readings.new.items ≡ readings.old.items) }
