@@ -27,4 +27,5 @@ pub record AreAllChanged (cells before after marks : List Cell) (old new : Store
 
 -- these cells are those of two lists
 abbrev pub AreBoth : List Cell → List Cell → List Cell → Type 0
-AreBoth one other both = (cell : Cell) → is_among both cell ≡ (is_among one cell || is_among other cell)
+AreBoth one other both = (cell : Cell)
+    → is_among both cell ≡ (is_among one cell || is_among other cell)

@@ -36,7 +36,8 @@ pub record Holds (answer : Answers) (b : CalcBook) (s : CalcState) : Type 0 wher
   pub completed : IsInOrder s.completed
   pub changed : (cell : Cell) → is_among b.changed.keys cell ≡ is_among s.changed cell
   pub chain : (cell : Cell) → is_among b.chain.entries cell ≡ is_formula s.book cell
-  pub shown : (cell : Cell) → shown_at b.store cell ≡ shown_in (topic_setting answer s.snapshot) s.completed cell
+  pub shown : (cell : Cell) → shown_at b.store cell
+      ≡ shown_in (topic_setting answer s.snapshot) s.completed cell
 
 -- no recalculation runs: off the changed cells the table follows the book, which has there the contents of the last
 -- completed recalculation; and what doesn't reach a changed cell is present as it is shown
@@ -55,7 +56,8 @@ IsAlikeNow answer now s =
 -- a recalculation runs, in which topics have the values now: the table follows the book, the marks are the stale cells,
 -- what is present has its meaning, and what has no value yet is due or circular; what doesn't reach a changed cell is
 -- present as it is shown, and is as it was
-pub record InRound (answer : Answers) (now : Topic → Value) (b : CalcBook) (s : CalcState) : Type 0 where
+pub record InRound (answer : Answers) (now : Topic → Value) (b : CalcBook) (s : CalcState)
+    : Type 0 where
   pub holds : Holds answer b s
   pub table : TableFollows s.book [] b.table
   pub marked : (cell : Cell) → is_among b.marks cell ≡ is_stale s.book s.changed cell
@@ -81,7 +83,8 @@ is_forgotten s cell = is_stale s.book s.changed cell || is_among s.changed cell
 abbrev pub NotesCleanReaders : Answers → SourceState → CalcState → Type 0
 NotesCleanReaders answer source s = (topic : Topic) (cell : Cell)
     → source.has_read topic cell
-    ≡ (reads_served (topic_setting answer s.snapshot) s.completed source topic cell && not (is_forgotten s cell))
+    ≡ (reads_served (topic_setting answer s.snapshot) s.completed source topic cell
+    && not (is_forgotten s cell))
 
 -- in a recalculation: what the source has noted is read, and each cell that has a value has been noted
 abbrev pub ReadsInRound : Answers → SourceState → CalcBook → Type 0

@@ -25,8 +25,8 @@ feed_state value readings = record {
 -- read has the value that it had
 pub record IsInStep (source : SourceState) (s : CalcState) : Type 0 where
   pub notes : NotesReaders (topic_setting sample_answer s.snapshot) s.completed source
-  pub alike : (topic : Topic) (cell : Cell) → source.has_read topic cell ≡ true → is_among s.changed cell ≡ false
-      → s.snapshot topic ≡ source.snapshot topic
+  pub alike : (topic : Topic) (cell : Cell) → source.has_read topic cell ≡ true
+      → is_among s.changed cell ≡ false → s.snapshot topic ≡ source.snapshot topic
 
 -- a book at rest, and the source of its topics
 pub record Stands (book : CalcBook) (value : ℤ) (readings : List (Topic × Cell)) : Type 0 where

@@ -123,7 +123,8 @@ impl CalcBook {
     /// Notes the formula cells with an RTD call as changed. A refusal changes nothing.
     pub fn note_rtd_callers(&mut self) -> Result<(), Memory>
         ensures ok { (answer : Answers) (s : CalcState) → AtRest answer self.old s
-            → OnOk result (AtRest answer self.new (calc_note s (formulas_where s.book has_rtd_call))) }
+            → OnOk result (AtRest answer self.new
+            (calc_note s (formulas_where s.book has_rtd_call))) }
         ensures refused { (answer : Answers) (s : CalcState) → AtRest answer self.old s
             → OnErr result (AtRest answer self.new s) }
     {

@@ -24,7 +24,8 @@ pub fn rtd_callers(alloc: Global, book: &Book, chain: &CellChain) -> Result<Vec<
 
 /// Those of some cells whose formula has an RTD call.
 fn calling(alloc: Global, book: &Book, cells: &[Cell]) -> Result<Vec<Cell>, Memory>
-    ensures { IfOk result (λ callers. callers.items ≡ filter (calls_rtd book.now.contents) cells.now) }
+    ensures { IfOk result (λ callers. callers.items
+        ≡ filter (calls_rtd book.now.contents) cells.now) }
 {
     let mut callers = Vec::new(alloc);
     for cell in cells {
