@@ -478,7 +478,7 @@ fn a_topic_keeps_its_value_through_a_recalculation(rt: HostRuntime) -> Result<()
     let steps: [Step; 9] = [
         (
             1,
-            Edit::Formula("=RTD(\"feed\",,\"px\")"),
+            Edit::Formula("=RTD(\"feed\",\"\",\"px\")"),
             None,
             0,
             &[],
