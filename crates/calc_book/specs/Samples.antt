@@ -11,7 +11,7 @@ use Rattle.cell_refs.specs.Cell.{is_among, same_cell}
 use Rattle.cell_values.specs.declared.topics.Topic.{Topic}
 use Rattle.cell_values.specs.declared.values.Value.TheVariants as values
 use Rattle.cell_values.specs.Topic.{same_topic}
-use Rattle.topic_source.specs.Source.{SourceState}
+use Rattle.topic_source.specs.Source.{SourceState, no_standing}
 
 -- a source in which each topic has this value, after these readings
 abbrev pub feed_state : ℤ → List (Topic × Cell) → SourceState
@@ -19,6 +19,7 @@ feed_state value readings = record {
   snapshot = λ topic. values.Num value;
   is_served = λ topic. true;
   has_read = λ topic cell. list_any (λ e. same_topic e.0 topic && same_cell e.1 cell) readings;
+  standing = no_standing;
 }
 
 -- a source has noted who read which topic in the last completed recalculation, and what a reader that isn't changed has
