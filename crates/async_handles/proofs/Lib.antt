@@ -1,0 +1,4 @@
+pub mod OpenLaws
+pub mod OrderLaws
+pub mod ServingLaws
+pub mod SplitLaws
