@@ -1,4 +1,7 @@
-pub mod OpenLaws
-pub mod OrderLaws
-pub mod ServingLaws
-pub mod SplitLaws
+-- Laws of open calls in cell order, and of trees of them.
+mod FoundLaws
+mod OpenLaws
+mod OrderLaws
+pub mod PublicLaws
+mod ServingLaws
+mod SplitLaws

@@ -13,7 +13,7 @@ use Rattle.cell_refs.specs.Cell.{cell_cmp, same_cell}
 use Rattle.cell_refs.specs.Handle.{same_handle}
 use Rattle.cell_refs.proofs.PublicLaws.{cells_total, exact_cells}
 use Rattle.async_handles.specs.declared.open_calls.OpenCall.{OpenCall}
-use Rattle.async_handles.specs.OpenCalls.{AreBehind, AreOfSession, IsInCellOrder, call_at, calls_after_serving, calls_without, cell_of, handle_of, is_live, with_call}
+use Rattle.async_handles.specs.OpenCalls.{AreBehind, AreOfSession, AreOpenCalls, IsInCellOrder, call_at, calls_after_serving, calls_without, cell_of, first_unserved, handle_of, is_live, with_call}
 use Rattle.async_handles.proofs.OrderLaws.{behind_further, turned_greater, turned_less}
 use Rattle.async_handles.proofs.SplitLaws.{without-behind}
 
@@ -118,7 +118,7 @@ length_serving (e ∷ calls) =
     ]
 
 -- whether a handle is that of a cell
-pub is_its : Option Handle → Handle → Bool
+abbrev pub is_its : Option Handle → Handle → Bool
 is_its None h = false
 is_its (Some g) h = same_handle g h
 
@@ -147,7 +147,6 @@ or_false false c h = h
 live_cases : (o : Ordering) (e : OpenCall) (calls : List OpenCall) (h : Handle) → cell_cmp h.cell (cell_of e) ≡ o → AreBehind (cell_of e) calls
     → is_live calls h ≡ is_its (handle_of calls h.cell) h
     → (same_handle e.call.handle h || is_live calls h) ≡ is_its (option_map (λ entry. entry.call.handle) (cond (is_eq o) (Some e) (call_at calls h.cell))) h
-unfolding is_its
 live_cases Less e calls h is behind rest =
     ap (λ b. b || is_live calls h) (not_its e.call.handle h (ap is_eq (turned_less h.cell (cell_of e) is))) ∙ rest
 live_cases Equal e calls h is behind rest =
@@ -158,6 +157,46 @@ live_cases Greater e calls h is behind rest =
 
 -- a handle is live where it is that of its cell
 pub live_is : (calls : List OpenCall) (h : Handle) → IsInCellOrder calls → is_live calls h ≡ is_its (handle_of calls h.cell) h
-unfolding is_its
 live_is [] h order = refl
 live_is (e ∷ calls) h order = live_cases (cell_cmp h.cell (cell_of e)) e calls h refl order.0 (live_is calls h order.1)
+
+-- a cell of a live handle has a call
+pub live_some : (calls : List OpenCall) (h : Handle) → IsInCellOrder calls → is_live calls h ≡ true → is_some (call_at calls h.cell) ≡ true
+live_some calls h order live =
+    elim (call_at calls h.cell) as (λ o. is_its (option_map (λ entry. entry.call.handle) o) h ≡ true → is_some o ≡ true) [
+      | None ↦ λ its. its
+      | Some e ↦ λ its. refl
+    ] (sym (live_is calls h order) ∙ live)
+
+-- where all were served, serving changes nothing
+pub serving_none : (calls : List OpenCall) → first_unserved calls ≡ None → calls_after_serving calls ≡ calls
+serving_none [] h = refl
+serving_none (e ∷ calls) h =
+    elim e.is_served as (λ b. cond (not b) (Some e) (first_unserved calls) ≡ None → cond b (e ∷ calls_after_serving calls) ((record e { is_served = true }) ∷ calls) ≡ e ∷ calls) [
+      | true ↦ λ h. ap (λ v. e ∷ v) (serving_none calls h)
+      | false ↦ λ h. absurd (none-some e (sym h))
+    ] h
+
+-- open calls of a session stay so with one more of the session, of a cell without one
+pub open_with : (session n m : ℕ) (calls : List OpenCall) (new : OpenCall) → AreOpenCalls (record { session = session; calls = calls; spare = n })
+    → new.call.handle.session ≡ session → call_at calls (cell_of new) ≡ None → AreOpenCalls (record { session = session; calls = with_call calls new; spare = m })
+open_with session n m calls new are its free = record {
+  order = order_with calls new are.order free;
+  session = all_with (λ entry. entry.call.handle.session ≡ session) calls new are.session its;
+}
+
+-- and without that of a cell
+pub open_without : (session n m : ℕ) (calls : List OpenCall) (x : Cell) → AreOpenCalls (record { session = session; calls = calls; spare = n })
+    → AreOpenCalls (record { session = session; calls = calls_without calls x; spare = m })
+open_without session n m calls x are = record {
+  order = order_without calls x are.order;
+  session = all_without (λ entry. entry.call.handle.session ≡ session) calls x are.session;
+}
+
+-- and when one is served
+pub open_serving : (session n m : ℕ) (calls : List OpenCall) → AreOpenCalls (record { session = session; calls = calls; spare = n })
+    → AreOpenCalls (record { session = session; calls = calls_after_serving calls; spare = m })
+open_serving session n m calls are = record {
+  order = order_serving calls are.order;
+  session = all_serving (λ entry. entry.call.handle.session ≡ session) (λ e h. h) calls are.session;
+}

@@ -42,9 +42,9 @@ impl Model for Handles {
 }
 
 impl Handles {
-    ghost use Rattle.std.specs.Prelude.{ℕ, ◌+◌, ◌-◌, ◌<◌, ◌≤◌, [], false, Some, None, map, length, if◌then◌else◌, IfOk, OnOk, OnErr};
+    ghost use Rattle.std.specs.Prelude.{ℕ, ◌+◌, ◌-◌, ◌<◌, ◌≤◌, [], true, false, Some, None, is_some, map, length, if◌then◌else◌, IfOk, OnOk, OnErr};
     ghost use Rattle.std.specs.Option.{option_map};
-    ghost use Rattle.async_handles.specs.OpenCalls.{AreOpenCalls, calls_after_serving, calls_without, first_call, first_unserved, handle_of, is_live, with_call};
+    ghost use Rattle.async_handles.specs.OpenCalls.{AreOpenCalls, call_at, calls_after_serving, calls_without, first_call, first_unserved, handle_of, is_live, with_call};
 
     /// No open calls, of this session.
     pub fn new(alloc: Global, session: u64) -> Handles
@@ -71,7 +71,7 @@ impl Handles {
             return Err(Memory);
         };
         self.places.reserve(room)?;
-        add_places(self.alloc, &mut self.places, missing)
+        make_places(self.alloc, &mut self.places, n)
     }
 
     /// Opens a call of a cell that has none, and gives its handle. It takes no memory.
@@ -79,12 +79,18 @@ impl Handles {
         requires spare { 0 < self.old.spare }
         requires free { handle_of self.old.calls cell ≡ None }
         ensures handle { result ≡ record {
-          session = self.old.session; round = round; cell = cell; site = site } }
+          session = self.old.session;
+          round = round;
+          cell = cell;
+          site = site;
+        } }
         ensures issued { self.new ≡ record self.old {
           calls = with_call self.old.calls (record {
             call = record { handle = result; name = name; args = args };
-            is_served = false });
-          spare = self.old.spare - 1 } }
+            is_served = false;
+          });
+          spare = self.old.spare - 1;
+        } }
         ensures are_open { AreOpenCalls self.new }
     {
         let handle = Handle {
@@ -115,23 +121,44 @@ impl Handles {
         ensures ended { self.new ≡ (if is_live self.old.calls h.now
             then record self.old {
               calls = calls_without self.old.calls h.now.cell;
-              spare = self.old.spare + 1 }
+              spare = self.old.spare + 1;
+            }
             else self.old) }
         ensures are_open { AreOpenCalls self.new }
     {
-        match self.handle_of(h.cell) {
-            Some(live) if live == *h => {}
-            _ => return None,
+        if !self.is_live(h) {
+            return None;
         }
+        self.end(h.cell);
+        Some((h.cell, h.site))
+    }
+
+    /// Whether a handle is live.
+    fn is_live(&self, h: &Handle) -> bool
+        ensures live { result ≡ is_live self.now.calls h.now }
+        ensures are_open { AreOpenCalls self.now }
+    {
+        match self.handle_of(h.cell) {
+            Some(live) => live == *h,
+            None => false,
+        }
+    }
+
+    /// Ends the call of a cell that has one.
+    fn end(&mut self, cell: Cell)
+        requires { is_some (call_at self.old.calls cell) ≡ true }
+        ensures ended { self.new ≡ record self.old {
+          calls = calls_without self.old.calls cell;
+          spare = self.old.spare + 1;
+        } }
+        ensures are_open { AreOpenCalls self.new }
+    {
         let calls = mem::replace(&mut self.calls, Tree::new());
-        let (calls, sides) = calls.without(h.cell);
+        let (calls, sides) = calls.without(cell);
         self.calls = calls;
-        let Some(sides) = sides else {
-            unreachable!()
-        };
+        let Some(sides) = sides else { unreachable!() };
         self.places.push_reserved(sides);
         self.live -= 1;
-        Some((h.cell, h.site))
     }
 
     /// The live handle of a cell.
@@ -197,17 +224,17 @@ impl Handles {
     }
 }
 
-ghost use Rattle.std.specs.Prelude.{◌+◌, ◌≤◌, OnOk, vec_capacity, vec_len};
+ghost use Rattle.std.specs.Prelude.{◌≤◌, max, OnOk, vec_capacity, vec_len};
 
-/// Makes so many places, for which there is room in the list. A refusal leaves those made that were made before.
-fn add_places(alloc: Global, places: &mut Vec<Sides>, count: usize) -> Result<(), Memory>
-    requires { vec_len places.old + count ≤ vec_capacity places.old }
-    ensures made { OnOk result (vec_len places.new ≡ vec_len places.old + count) }
+/// Makes places until there are so many, for which there is room in the list. A refusal leaves those that were made.
+fn make_places(alloc: Global, places: &mut Vec<Sides>, count: usize) -> Result<(), Memory>
+    requires { count ≤ vec_capacity places.old }
+    ensures made { OnOk result (count ≤ vec_len places.new) }
     ensures more { vec_len places.old ≤ vec_len places.new }
-    ensures at_most { vec_len places.new ≤ vec_len places.old + count }
+    ensures at_most { vec_len places.new ≤ max (vec_len places.old) count }
     ensures room { vec_capacity places.new ≡ vec_capacity places.old }
 {
-    for _ in 0..count {
+    while places.len() < count {
         let sides = Box::new(alloc, (Tree::new(), Tree::new()))?;
         places.push_reserved(sides);
     }

@@ -3,9 +3,9 @@
 
 mod handles;
 mod open_calls;
-mod tree;
 #[cfg(test)]
 mod tests;
+mod tree;
 
 pub use addin_types::Call;
 pub use cell_refs::{Cell, Handle};
