@@ -4,7 +4,6 @@ use Rattle.std.specs.Option.{option_map}
 use Rattle.std.specs.Ordering.{is_lt}
 use Rattle.std.proofs.lemmas.Option.{none-some}
 use Rattle.cell_refs.specs.declared.grid.Cell.{Cell}
-use Rattle.cell_refs.specs.declared.handles.Handle.{Handle}
 use Rattle.cell_refs.specs.Cell.{cell_cmp, same_cell}
 use Rattle.cell_refs.proofs.PublicLaws.{same_cell_is, same_cells}
 use Rattle.async_handles.specs.declared.open_calls.OpenCall.{OpenCall}
@@ -61,7 +60,9 @@ kept x y e found after false here rest =
 
 -- after the call of a cell was ended
 pub call_at-without : (calls : List OpenCall) (y x : Cell) → call_at (calls_without calls y) x ≡ cond (same_cell x y) None (call_at calls x)
-call_at-without [] y x = elim (same_cell x y) as (λ b. None ≡ cond b None None) [ true ↦ refl | false ↦ refl ]
+call_at-without [] y x =
+    let none : Option OpenCall = None in
+    elim (same_cell x y) as (λ b. none ≡ cond b none none) [ true ↦ refl | false ↦ refl ]
 call_at-without (e ∷ calls) y x =
     let rest = call_at-without calls y x in
     elim (same_cell y (cell_of e)) as (λ b. same_cell y (cell_of e) ≡ b → call_at (cond (not b) (e ∷ calls_without calls y) (calls_without calls y)) x

@@ -1,19 +1,18 @@
 -- Open calls, when one is opened, ended or served.
-use Rattle.std.proofs.Common.{◌≡◌, ℕ, ◌+◌, Bool, true, false, cond, not, ◌&&◌, ◌||◌, nat_eq, Option, None, Some, is_some, List, [], ◌∷◌, ◌++◌, length, refl, sym, ap, subst, ◌∙◌, true≢false, arith}
-use Rattle.std.specs.Prelude.{filter}
+use Rattle.std.proofs.Common.{◌≡◌, ℕ, ◌+◌, Bool, true, false, cond, not, ◌&&◌, ◌||◌, nat_eq, Option, None, Some, is_some, List, [], ◌∷◌, length, refl, sym, ap, subst, ◌∙◌, true≢false, arith}
 use Rattle.std.specs.List.{AllByRecursion}
 use Rattle.std.specs.Option.{option_map}
 use Rattle.std.proofs.lemmas.Option.{none-some}
 use Rattle.std.specs.declared.cmp.Ordering.{Ordering}
 use Rattle.std.specs.declared.cmp.Ordering.TheVariants.{Less, Equal, Greater}
-use Rattle.std.specs.Ordering.{is_eq, is_lt, ordering_reverse}
+use Rattle.std.specs.Ordering.{is_eq, is_lt}
 use Rattle.cell_refs.specs.declared.grid.Cell.{Cell}
 use Rattle.cell_refs.specs.declared.handles.Handle.{Handle}
 use Rattle.cell_refs.specs.Cell.{cell_cmp, same_cell}
 use Rattle.cell_refs.specs.Handle.{same_handle}
-use Rattle.cell_refs.proofs.PublicLaws.{cells_total, exact_cells}
+use Rattle.cell_refs.proofs.PublicLaws.{exact_cells}
 use Rattle.async_handles.specs.declared.open_calls.OpenCall.{OpenCall}
-use Rattle.async_handles.specs.OpenCalls.{AreBehind, AreOfSession, AreOpenCalls, IsInCellOrder, call_at, calls_after_serving, calls_without, cell_of, first_unserved, handle_of, is_live, with_call}
+use Rattle.async_handles.specs.OpenCalls.{AreBehind, AreOpenCalls, IsInCellOrder, call_at, calls_after_serving, calls_without, cell_of, first_unserved, handle_of, is_live, with_call}
 use Rattle.async_handles.proofs.OrderLaws.{behind_further, turned_greater, turned_less}
 use Rattle.async_handles.proofs.SplitLaws.{without-behind}
 

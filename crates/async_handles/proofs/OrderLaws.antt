@@ -1,12 +1,10 @@
 -- Calls in cell order, round one of them.
-use Rattle.std.proofs.Common.{◌≡◌, Bool, true, false, cond, not, Option, None, Some, List, [], ◌∷◌, ◌++◌, ◌<◌, length, refl, sym, ap, subst, ◌∙◌, arith, length-append}
-use Rattle.std.specs.Prelude.{filter}
-use Rattle.std.specs.declared.cmp.Ordering.{Ordering}
+use Rattle.std.proofs.Common.{◌≡◌, cond, None, Some, List, [], ◌∷◌, ◌++◌, ◌<◌, length, refl, sym, ap, subst, ◌∙◌, arith, length-append}
 use Rattle.std.specs.declared.cmp.Ordering.TheVariants.{Less, Equal, Greater}
 use Rattle.std.specs.Ordering.{is_eq, ordering_reverse}
 use Rattle.cell_refs.specs.declared.grid.Cell.{Cell}
 use Rattle.cell_refs.specs.Cell.{cell_cmp, same_cell}
-use Rattle.cell_refs.proofs.PublicLaws.{cells_total, exact_cells, same_cell_is}
+use Rattle.cell_refs.proofs.PublicLaws.{cells_total, exact_cells}
 use Rattle.async_handles.specs.declared.open_calls.OpenCall.{OpenCall}
 use Rattle.async_handles.specs.OpenCalls.{AreBehind, IsInCellOrder, call_at, cell_of}
 use Rattle.async_handles.specs.Tree.{AreBefore}

@@ -1,5 +1,5 @@
 -- Calls of which some were served.
-use Rattle.std.proofs.Common.{◌≡◌, Bool, true, false, cond, not, ◌||◌, Option, None, Some, List, [], ◌∷◌, ◌++◌, refl, sym, ap, subst, ◌∙◌, true≢false}
+use Rattle.std.proofs.Common.{◌≡◌, true, false, cond, not, ◌||◌, None, Some, List, [], ◌∷◌, ◌++◌, refl, sym, ap, ◌∙◌, true≢false}
 use Rattle.async_handles.specs.declared.open_calls.OpenCall.{OpenCall}
 use Rattle.async_handles.specs.OpenCalls.{calls_after_serving, first_unserved}
 use Rattle.async_handles.specs.Tree.{any_unserved}

@@ -1,12 +1,11 @@
 -- Calls that are split at a cell.
-use Rattle.std.proofs.Common.{◌≡◌, Bool, true, false, cond, not, Option, None, Some, is_some, List, [], ◌∷◌, ◌++◌, refl, sym, ap, subst, ◌∙◌, append_assoc}
-use Rattle.std.specs.Prelude.{filter, IfSome}
+use Rattle.std.proofs.Common.{◌≡◌, cond, not, Option, None, Some, is_some, List, [], ◌∷◌, ◌++◌, refl, sym, ap, subst, ◌∙◌, append_assoc}
 use Rattle.std.specs.Option.{option_map, option_to_list}
 use Rattle.std.proofs.lemmas.Option.{none-some}
 use Rattle.std.specs.declared.cmp.Ordering.TheVariants.{Less, Equal, Greater}
 use Rattle.std.specs.Ordering.{is_eq, is_lt}
 use Rattle.cell_refs.specs.declared.grid.Cell.{Cell}
-use Rattle.cell_refs.specs.Cell.{cell_cmp, same_cell}
+use Rattle.cell_refs.specs.Cell.{cell_cmp}
 use Rattle.cell_refs.proofs.PublicLaws.{exact_cells}
 use Rattle.async_handles.specs.declared.open_calls.OpenCall.{OpenCall}
 use Rattle.async_handles.specs.OpenCalls.{AreBehind, IsInCellOrder, call_at, calls_without, cell_of, with_call}

@@ -287,7 +287,7 @@ fn fork(left: Tree, entry: OpenCall, mut sides: Sides, right: Tree) -> Tree
     }
 }
 
-/// A number that is different for each cell, and whose order is unlike that of the cells.
+/// A number of a cell. Numbers stand in another order than their cells.
 fn mixed(cell: Cell) -> u64 {
     let number = u64::from(cell.sheet).wrapping_mul(0x2545_F491_4F6C_DD1D)
         ^ u64::from(cell.row).wrapping_mul(0x9E37_79B9_7F4A_7C15)

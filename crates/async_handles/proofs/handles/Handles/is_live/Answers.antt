@@ -1,4 +1,4 @@
-use Rattle.std.proofs.Common.{◌≡◌, sym, ap, ◌∙◌}
+use Rattle.std.proofs.Common.{sym, ap, ◌∙◌}
 use Rattle.async_handles.proofs.OpenLaws.{is_its, live_is}
 use Rattle.async_handles.proofs.handles.Handles.is_live.Goals as goal
 

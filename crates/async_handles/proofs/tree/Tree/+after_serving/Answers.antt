@@ -1,4 +1,4 @@
-use Rattle.std.proofs.Common.{◌≡◌, ◌∷◌, ◌++◌, true, sym, ap, ◌∙◌}
+use Rattle.std.proofs.Common.{◌∷◌, ◌++◌, sym, ap, ◌∙◌}
 use Rattle.async_handles.specs.OpenCalls.{calls_after_serving}
 use Rattle.async_handles.proofs.ServingLaws.{serving_behind, serving_front, serving_here}
 use Rattle.async_handles.proofs.tree.Tree.+after_serving.Goals as goal

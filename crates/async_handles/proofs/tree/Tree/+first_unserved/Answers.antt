@@ -1,4 +1,4 @@
-use Rattle.std.proofs.Common.{◌≡◌, ◌∷◌, ◌++◌, sym, ap, subst, ◌∙◌}
+use Rattle.std.proofs.Common.{◌∷◌, ◌++◌, sym, ap, subst, ◌∙◌}
 use Rattle.async_handles.specs.OpenCalls.{first_unserved}
 use Rattle.async_handles.specs.Tree.{HasRightMark, any_unserved, calls_of}
 use Rattle.async_handles.proofs.ServingLaws.{first_behind, first_front, first_here, first_none}

@@ -1,7 +1,5 @@
-use Rattle.std.proofs.Common.{rules, ◌≡◌, ◌∷◌, ◌++◌, length, sym, ap, subst, ◌∙◌}
-use Rattle.std.specs.declared.cmp.Ordering.TheVariants.{Less, Equal, Greater}
-use Rattle.cell_refs.specs.Cell.{cell_cmp}
-use Rattle.async_handles.specs.OpenCalls.{IsInCellOrder, call_at, cell_of}
+use Rattle.std.proofs.Common.{rules, length, sym, ap, subst, ◌∙◌}
+use Rattle.async_handles.specs.OpenCalls.{IsInCellOrder, call_at}
 use Rattle.async_handles.specs.Tree.{calls_of}
 use Rattle.async_handles.proofs.OrderLaws.{call_at-equal, call_at-greater, call_at-less, order_front, order_right, sides_shorter}
 use Rattle.async_handles.proofs.tree.Tree.+get.Goals as goal

@@ -1,6 +1,6 @@
-use Rattle.std.proofs.Common.{rules, ◌≡◌, ◌∷◌, ◌++◌, Some, length, sym, ap, subst, ◌∙◌}
+use Rattle.std.proofs.Common.{rules, ◌∷◌, ◌++◌, Some, length, sym, ap, subst, ◌∙◌}
 use Rattle.std.specs.Option.{option_map}
-use Rattle.async_handles.specs.OpenCalls.{IsInCellOrder, cell_of}
+use Rattle.async_handles.specs.OpenCalls.{IsInCellOrder}
 use Rattle.async_handles.specs.Tree.{IsSplitAt}
 use Rattle.async_handles.proofs.OrderLaws.{order_front, order_right, sides_shorter}
 use Rattle.async_handles.proofs.SplitLaws.{split_equal, split_greater, split_less}

@@ -1,6 +1,5 @@
-use Rattle.std.proofs.Common.{rules, arith, ◌≡◌, [], ◌∷◌, ◌++◌, sym, ap, ◌∙◌, append_assoc}
+use Rattle.std.proofs.Common.{[], ◌∷◌, ◌++◌, sym, ap, ◌∙◌, append_assoc}
 use Rattle.std.specs.Option.{option_map}
-use Rattle.async_handles.specs.OpenCalls.{with_call}
 use Rattle.async_handles.proofs.SplitLaws.{with_call-split}
 use Rattle.async_handles.proofs.tree.Tree.with.Goals as goal
 

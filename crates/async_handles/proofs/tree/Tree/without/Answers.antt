@@ -1,4 +1,4 @@
-use Rattle.std.proofs.Common.{◌≡◌, is_some, sym, ap, ◌∙◌}
+use Rattle.std.proofs.Common.{is_some, sym, ap, ◌∙◌}
 use Rattle.std.specs.Option.{option_map}
 use Rattle.async_handles.proofs.SplitLaws.{found_at, is_some_part, without-split}
 use Rattle.async_handles.proofs.tree.Tree.without.Goals as goal
