@@ -1,5 +1,5 @@
 -- Cells that are noted as changed.
-use Rattle.std.proofs.Common.{◌≡◌, ℕ, zero, suc, ◌+◌, ◌<◌, length, take, Bool, true, false, not, cond, ◌||◌, ◌&&◌, List, [], ◌∷◌, ◌++◌, Option, None, Some, is_some, Result, Ok, Err, OnOk, OnErr, ⊎_elim, inl, inr, refl, ap, sym, subst, ◌∙◌}
+use Rattle.std.proofs.Common.{◌≡◌, ℕ, zero, suc, ◌+◌, ◌<◌, length, take, Bool, true, false, not, cond, ◌||◌, ◌&&◌, List, [], ◌∷◌, ◌++◌, Option, None, Some, is_some, ⊎_elim, inl, inr, refl, ap, sym, ◌∙◌}
 use Rattle.std.specs.List.{filter, slice_index_or}
 use Rattle.std.specs.Map.{keys_of}
 use Rattle.std.proofs.lemmas.Bool.{and_parts, false_from_ne_true, not-true, or_cases, or_left, or_right}
@@ -16,12 +16,11 @@ use Rattle.calc_round.specs.Rounds.{HasSameCells}
 use Rattle.cell_refs.specs.declared.grid.Cell.{Cell}
 use Rattle.cell_refs.specs.Cell.{cell_cmp, is_among, same_cell}
 use Rattle.cell_refs.proofs.PublicLaws.{same_cells}
-use Rattle.formula_parse.specs.declared.nodes.Node.{Node}
 use Rattle.formula_parse.specs.Tree.{has_rtd_call}
 use Rattle.std.specs.BTreeSet.{BTreeSet}
 use Rattle.workbook.specs.declared.contents.Content.{Content}
 use Rattle.workbook.specs.declared.contents.Content.TheVariants as contents
-use Rattle.workbook.specs.Book.{IsInOrder, by_content, cell_precedents, content_at, has_formula, is_formula}
+use Rattle.workbook.specs.Book.{IsInOrder, by_content, cell_precedents, content_at, has_formula}
 use Rattle.workbook.specs.Step.{formulas_where}
 
 not_both : (b : Bool) → b ≡ true → b ≡ false → ⊥

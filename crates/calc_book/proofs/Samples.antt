@@ -1,7 +1,7 @@
 -- For the tests: a book in step with a source in which each topic has one value.
 use Rattle.std.proofs.Common.{◌≡◌, ℤ, Bool, true, false, not, cond, ◌||◌, ◌&&◌, List, [], ◌∷◌, ◌++◌, map, ⊎_elim, refl, ap, sym, ◌∙◌}
 use Rattle.std.specs.List.{filter, list_any}
-use Rattle.std.proofs.lemmas.Bool.{and_from, and_parts, false_from_ne_true, or_cases, or_left, or_right, or_parts}
+use Rattle.std.proofs.lemmas.Bool.{and_from, and_parts, false_from_ne_true, or_cases, or_left, or_right}
 use Rattle.std.proofs.lemmas.List.Folds.{list_any-append}
 use Rattle.addin_types.specs.Samples.{sample_answer}
 use Rattle.calc_book.specs.CalcState.{CalcState, calc_begin, calc_note, calc_settle, first_calc}
@@ -16,12 +16,11 @@ use Rattle.cell_refs.proofs.PublicLaws.{same_cell_is, same_cells}
 use Rattle.cell_values.specs.declared.topics.Topic.{Topic}
 use Rattle.cell_values.specs.declared.values.Value.{Value}
 use Rattle.cell_values.specs.Topic.{same_topic}
-use Rattle.topic_source.specs.Source.{NotesReader, SourceState}
+use Rattle.topic_source.specs.Source.{NotesReader}
 use Rattle.workbook.specs.declared.commands.BeginKind.{BeginKind}
 use Rattle.workbook.specs.declared.contents.Content.{Content}
 use Rattle.workbook.specs.Book.{formula_count, has_formula, is_formula}
 use Rattle.workbook.specs.Reads.{cell_reads}
-use Rattle.workbook.specs.Stale.{is_stale}
 use Rattle.workbook.proofs.PublicLaws.{reaches-among}
 
 not_both : (b : Bool) → b ≡ true → b ≡ false → ⊥

@@ -1,4 +1,4 @@
-use Rattle.std.proofs.Common.{rules, ◌<◌, length, sym}
+use Rattle.std.proofs.Common.{rules, ◌<◌, length}
 use Rattle.calc_book.proofs.BeginningLoops.{inserted-more}
 use Rattle.calc_book.proofs.NotingLaws.{others-kept}
 use Rattle.calc_book.proofs.noting.insert_all.Goals as goal
