@@ -1,0 +1,3 @@
+-- Laws of lists whose cells change places, and of rows that are written and emptied.
+mod ReaderLaws
+mod Zones

@@ -1,5 +1,5 @@
-ghost use Rattle.std.specs.Prelude.{◌≡◌, ◌<◌, false, [], ◌∷◌, ◌++◌, length, take, position, swap, IsOk, IfOk, OnOk, OnErr};
-ghost use Rattle.std.specs.List.{IsDistinct};
+ghost use Rattle.std.specs.Prelude.{◌≡◌, ◌+◌, ◌<◌, false, [], ◌∷◌, ◌++◌, length, take, position, swap, swap_remove, is_some, IsOk, IfOk, OnOk, OnErr};
+ghost use Rattle.std.specs.List.{IsDistinct, slice_index_or};
 ghost use Rattle.cell_refs.specs.Cell.{is_among, same_cell};
 
 use super::cell_keys::CellKey;
@@ -58,6 +58,7 @@ impl CellList {
     /// Where a cell stands.
     pub fn position(&self, cell: Cell) -> Option<usize>
         ensures place { result ≡ position (same_cell cell) self.now }
+        ensures found { is_some result ≡ is_among self.now cell }
         ensures once { IsDistinct same_cell self.now }
     {
         let _unique = self.keys.len();
@@ -81,10 +82,25 @@ impl CellList {
     pub fn swap(&mut self, i: usize, j: usize)
         requires first { i < length self.old }
         requires second { j < length self.old }
-        ensures { self.new ≡ swap self.old i j }
+        ensures cells { self.new ≡ swap self.old i j }
+        ensures once { IsDistinct same_cell self.new }
     {
         self.keys.swap_indices(i, j);
         self.cells.swap(i, j);
+    }
+
+    /// Takes out the cell at a place, which the last one takes.
+    pub fn swap_remove(&mut self, place: usize) -> Cell
+        requires { place < length self.old }
+        ensures cell { result ≡ slice_index_or self.old place result }
+        ensures cells { self.new ≡ swap_remove self.old place result }
+        ensures len { length self.new + 1 ≡ length self.old }
+        ensures gone { is_among self.new result ≡ false }
+    {
+        let last = self.cells.len() - 1;
+        self.keys.swap_indices(place, last);
+        self.keys.truncate(last);
+        self.cells.swap_remove(place)
     }
 
     /// Keeps the first cells.

@@ -108,9 +108,7 @@ impl Readers {
             return;
         };
         if place >= self.kept {
-            let last = self.cells.len() - 1;
-            self.cells.swap(place, last);
-            self.cells.truncate(last);
+            let _ = self.cells.swap_remove(place);
         } else if place >= self.forgotten {
             self.cells.swap(place, self.forgotten);
             self.forgotten += 1;
@@ -145,8 +143,6 @@ fn drop_front(cells: &mut CellList, count: usize)
     let mut left = count;
     while left > 0 {
         left -= 1;
-        let last = cells.len() - 1;
-        cells.swap(left, last);
-        cells.truncate(last);
+        let _ = cells.swap_remove(left);
     }
 }
