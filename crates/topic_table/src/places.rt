@@ -1,11 +1,9 @@
 //! What the table does to one place of it: a row, or none where the topic has left.
 
-ghost use Rattle.std.specs.Prelude.{◌≡◌, [], not, ◌&&◌, ◌||◌, Some, None, is_some, IsOk, OnOk, OnErr};
-ghost use Rattle.std.specs.Option.{option_map, option_map_or};
+ghost use Rattle.std.specs.Prelude.{◌≡◌, [], not, ◌&&◌, ◌||◌, true, is_some, IsOk, OnOk, OnErr};
 ghost use Rattle.cell_refs.specs.declared.grid.Cell.{Cell as OneCell};
 ghost use Rattle.cell_refs.specs.Cell.{is_among, same_cell};
-ghost use Rattle.cell_values.specs.SameValue.{same_value};
-ghost use Rattle.topic_table.specs.Rows.{bare, is_since_place, is_unread_place, kept_in, running_in};
+ghost use Rattle.topic_table.specs.Rows.{bare, is_other_in, is_since_place, is_topic_place, is_unread_place, kept_in, running_in, with_value};
 
 use super::readers::Readers;
 use cell_refs::Cell;
@@ -78,9 +76,8 @@ pub fn restore_in(place: &mut Option<Row>)
 
 /// Gives the row's topic a value: whether it had another one.
 pub fn take_in(place: &mut Option<Row>, value: Value) -> bool
-    ensures changed { result
-        ≡ option_map_or (λ row. not (same_value row.value value)) place.old false }
-    ensures row { place.new ≡ option_map (λ row. record row { value = value }) place.old }
+    ensures changed { result ≡ is_other_in place.old value }
+    ensures row { place.new ≡ with_value place.old value }
 {
     match place {
         Some(row) => {
@@ -108,6 +105,16 @@ pub fn is_since(place: &Option<Row>, round: u64) -> bool
 {
     match place {
         Some(row) => round == row.round,
+        None => false,
+    }
+}
+
+/// Whether a row of a topic is there.
+pub fn is_of(place: &Option<Row>, topic: &Topic) -> bool
+    ensures { result ≡ is_topic_place topic.now place.now }
+{
+    match place {
+        Some(row) => *topic == row.topic,
         None => false,
     }
 }

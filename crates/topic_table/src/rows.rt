@@ -1,11 +1,11 @@
-ghost use Rattle.std.specs.Prelude.{◌≡◌, ℕ, ◌+◌, ◌<◌, ◌≤◌, [], ◌∷◌, ◌++◌, List, Option, Some, None, true, false, not, ◌&&◌, ◌||◌, is_some, nat_eq, length, take, position, slice_get, IsOk, IfOk, IfErr, OnOk, OnErr, IfSome, IfNone};
+ghost use Rattle.std.specs.Prelude.{◌≡◌, ℕ, ◌+◌, ◌<◌, ◌≤◌, [], ◌∷◌, ◌++◌, List, Option, Some, None, true, false, not, ◌&&◌, ◌||◌, is_some, nat_eq, length, take, slice_get, IsOk, IfOk, IfErr, OnOk, OnErr, IfSome, IfNone};
 ghost use Rattle.std.specs.List.{IsDistinct, list_any};
-ghost use Rattle.std.specs.Option.{option_copied, option_map};
+ghost use Rattle.std.specs.Option.{option_copied, option_map, option_map_or};
 ghost use Rattle.cell_refs.specs.declared.grid.Cell.{Cell as OneCell};
 ghost use Rattle.cell_refs.specs.Cell.{same_cell};
 
 use super::places::{
-    Row, forget_in, is_since, is_unread, keep_in, read_in, restore_in, take_in,
+    Row, forget_in, is_of, is_since, is_unread, keep_in, read_in, restore_in, take_in,
 };
 use super::readers::Readers;
 use cell_refs::Cell;
@@ -70,7 +70,9 @@ impl Rows {
     /// What holds of each table. It does nothing.
     pub fn facts(&self)
         ensures { IsTable self.now }
-    {}
+    {
+        let _ = &self.greatest;
+    }
 
     /// The id of a topic, sought row by row.
     pub fn find(&self, topic: &Topic) -> Option<u64>
@@ -142,9 +144,9 @@ impl Rows {
     pub fn topic(&self, id: u64) -> Option<&Topic>
         ensures { option_copied result ≡ option_map (λ t. t.topic) (topic_at self.now.topics id) }
     {
-        match self.rows.get(&id) {
-            Some(Some(row)) => Some(&row.topic),
-            _ => None,
+        match row_of(&self.rows, id) {
+            Some(row) => Some(&row.topic),
+            None => None,
         }
     }
 
@@ -152,9 +154,9 @@ impl Rows {
     pub fn value(&self, id: u64) -> Option<&Value>
         ensures { option_copied result ≡ option_map (λ t. t.value) (topic_at self.now.topics id) }
     {
-        match self.rows.get(&id) {
-            Some(Some(row)) => Some(&row.value),
-            _ => None,
+        match row_of(&self.rows, id) {
+            Some(row) => Some(&row.value),
+            None => None,
         }
     }
 
@@ -167,10 +169,10 @@ impl Rows {
         ensures room { self.new.room ≡ self.old.room }
     {
         self.passed = Passed::Unread(0);
-        match self.rows.get_mut(&id) {
-            Some(place) => take_in(place, value),
-            None => false,
-        }
+        let Some(place) = self.rows.get_mut(&id) else {
+            return false;
+        };
+        take_in(place, value)
     }
 
     /// Notes that a cell reads the topic of an id in the running round. A refusal changes nothing.
@@ -185,10 +187,10 @@ impl Rows {
         ensures room { self.new.room ≡ self.old.room }
     {
         self.passed = Passed::Unread(0);
-        match self.rows.get_mut(&id) {
-            Some(place) => read_in(place, cell),
-            None => unreachable!(),
-        }
+        let Some(place) = self.rows.get_mut(&id) else {
+            unreachable!()
+        };
+        read_in(place, cell)
     }
 
     /// Forgets, for the running round, that a cell has read the topic of an id.
@@ -200,9 +202,10 @@ impl Rows {
         ensures room { self.new.room ≡ self.old.room }
     {
         self.passed = Passed::Unread(0);
-        if let Some(place) = self.rows.get_mut(&id) {
-            forget_in(place, cell);
-        }
+        let Some(place) = self.rows.get_mut(&id) else {
+            return;
+        };
+        forget_in(place, cell);
     }
 
     /// Forgets, for the running round, all that a cell has read, going through all rows.
@@ -214,11 +217,7 @@ impl Rows {
         ensures room { self.new.room ≡ self.old.room }
     {
         self.passed = Passed::Unread(0);
-        for i in 0..self.rows.len() {
-            if let Some(place) = self.rows.get_index_mut(i) {
-                forget_in(place, cell);
-            }
-        }
+        forget_all(&mut self.rows, cell);
     }
 
     /// The readers of the running round are the kept ones.
@@ -229,11 +228,7 @@ impl Rows {
         ensures room { self.new.room ≡ self.old.room }
     {
         self.passed = Passed::Unread(0);
-        for i in 0..self.rows.len() {
-            if let Some(place) = self.rows.get_index_mut(i) {
-                keep_in(place);
-            }
-        }
+        keep_all(&mut self.rows);
     }
 
     /// The readers of the running round are the kept ones again.
@@ -245,11 +240,7 @@ impl Rows {
         ensures room { self.new.room ≡ self.old.room }
     {
         self.passed = Passed::Unread(0);
-        for i in 0..self.rows.len() {
-            if let Some(place) = self.rows.get_index_mut(i) {
-                restore_in(place);
-            }
-        }
+        restore_all(&mut self.rows);
     }
 
     /// The kept readers of the topic of an id.
@@ -257,9 +248,9 @@ impl Rows {
         ensures cells { result.now ≡ readers_of self.now id }
         ensures once { IsDistinct same_cell (readers_of self.now id) }
     {
-        match self.rows.get(&id) {
-            Some(Some(row)) => row.readers.kept(),
-            _ => &[],
+        match row_of(&self.rows, id) {
+            Some(row) => row.readers.kept(),
+            None => &[],
         }
     }
 
@@ -267,9 +258,9 @@ impl Rows {
     pub fn has_read(&self, id: u64, cell: Cell) -> bool
         ensures { result ≡ has_read self.now id cell }
     {
-        match self.rows.get(&id) {
-            Some(Some(row)) => row.readers.has_read(cell),
-            _ => false,
+        match row_of(&self.rows, id) {
+            Some(row) => row.readers.has_read(cell),
+            None => false,
         }
     }
 
@@ -278,9 +269,9 @@ impl Rows {
         ensures { result ≡ not (is_no_cell (readers_of self.now id)
             && is_no_cell (running_of self.now id)) }
     {
-        match self.rows.get(&id) {
-            Some(Some(row)) => row.readers.is_any(),
-            _ => false,
+        match row_of(&self.rows, id) {
+            Some(row) => row.readers.is_any(),
+            None => false,
         }
     }
 
@@ -330,9 +321,20 @@ impl Rows {
 }
 
 ghost use Rattle.topic_table.specs.declared.places.Row.{Row as OneRow};
-ghost use Rattle.topic_table.specs.Rows.{IsReady, IsRising, connected, is_since_place, is_unread_place, live, live_entry};
-ghost use Rattle.topic_table.specs.Table.{id_of, leaving};
+ghost use Rattle.indexmap.specs.IndexMap.{set_value_at, spare};
+ghost use Rattle.topic_table.specs.Rows.{EachPlace, IsForgotten, IsKept, IsReady, IsRestored, IsRising, connected, is_since_place, is_unread_place, live, row_at, topic_in};
+ghost use Rattle.topic_table.specs.Table.{id_of};
 ghost use Rattle.std.specs.Prelude.{map};
+
+/// The row of an id.
+fn row_of(rows: &IndexMap<u64, Option<Row>>, id: u64) -> Option<&Row>
+    ensures { option_copied result ≡ row_at rows.now.entries id }
+{
+    match rows.get(&id) {
+        Some(place) => place.as_ref(),
+        None => None,
+    }
+}
 
 /// Readers for a new topic: those in store, or else new ones; None for want of memory.
 fn ready_readers(alloc: Global, ready: &mut Option<Readers>) -> Option<Readers>
@@ -352,8 +354,8 @@ fn find_in(rows: &IndexMap<u64, Option<Row>>, topic: &Topic) -> Option<u64>
     ensures { result ≡ id_of (map connected (live rows.now.entries)) topic.now }
 {
     for i in 0..rows.len() {
-        if let Some((id, Some(row))) = rows.get_index(i) {
-            if *topic == row.topic {
+        if let Some((id, place)) = rows.get_index(i) {
+            if is_of(place, topic) {
                 return Some(*id);
             }
         }
@@ -364,7 +366,11 @@ fn find_in(rows: &IndexMap<u64, Option<Row>>, topic: &Topic) -> Option<u64>
 /// Where the first row without kept readers stands, which isn't among the first ones.
 fn unread_place(rows: &IndexMap<u64, Option<Row>>, start: usize) -> Option<usize>
     requires { list_any (λ e. is_unread_place e.1) (take start rows.now.entries) ≡ false }
-    ensures { result ≡ position (λ e. is_unread_place e.1) rows.now.entries }
+    ensures first { IfSome result (λ i. list_any (λ e. is_unread_place e.1)
+        (take i rows.now.entries) ≡ false) }
+    ensures at { IfSome result (λ i. option_map_or (λ e. is_unread_place e.1)
+        (slice_get rows.now.entries i) false ≡ true) }
+    ensures none { IfNone result (list_any (λ e. is_unread_place e.1) rows.now.entries ≡ false) }
 {
     for i in start..rows.len() {
         if let Some((_, place)) = rows.get_index(i) {
@@ -379,7 +385,12 @@ fn unread_place(rows: &IndexMap<u64, Option<Row>>, start: usize) -> Option<usize
 /// Where the first row stands that was connected in a round, which isn't among the first ones.
 fn since_place(rows: &IndexMap<u64, Option<Row>>, round: u64, start: usize) -> Option<usize>
     requires { list_any (λ e. is_since_place round e.1) (take start rows.now.entries) ≡ false }
-    ensures { result ≡ position (λ e. is_since_place round e.1) rows.now.entries }
+    ensures first { IfSome result (λ i. list_any (λ e. is_since_place round e.1)
+        (take i rows.now.entries) ≡ false) }
+    ensures at { IfSome result (λ i. option_map_or (λ e. is_since_place round e.1)
+        (slice_get rows.now.entries i) false ≡ true) }
+    ensures none { IfNone result (list_any (λ e. is_since_place round e.1) rows.now.entries
+        ≡ false) }
 {
     for i in start..rows.len() {
         if let Some((_, place)) = rows.get_index(i) {
@@ -393,7 +404,10 @@ fn since_place(rows: &IndexMap<u64, Option<Row>>, round: u64, start: usize) -> O
 
 /// Empties a place, and gives its topic.
 fn take_out(rows: &mut IndexMap<u64, Option<Row>>, place: usize) -> (Topic, u64)
-    requires { ForSome (slice_get rows.old.entries place) (λ e. is_some e.1 ≡ true) }
+    requires { is_some (topic_in (slice_get rows.old.entries place)) ≡ true }
+    ensures row { topic_in (slice_get rows.old.entries place) ≡ Some result }
+    ensures left { rows.new.entries ≡ set_value_at rows.old.entries place None }
+    ensures room { spare rows.new ≡ spare rows.old }
 {
     let Some((id, _)) = rows.get_index(place) else {
         unreachable!()
@@ -412,4 +426,40 @@ fn take_out(rows: &mut IndexMap<u64, Option<Row>>, place: usize) -> (Topic, u64)
         readers: _,
     } = row;
     (topic, id)
+}
+
+/// The readers of the running round are the kept ones, in each row.
+fn keep_all(rows: &mut IndexMap<u64, Option<Row>>)
+    ensures places { EachPlace IsKept rows.old.entries rows.new.entries }
+    ensures room { spare rows.new ≡ spare rows.old }
+{
+    for i in 0..rows.len() {
+        if let Some(place) = rows.get_index_mut(i) {
+            keep_in(place);
+        }
+    }
+}
+
+/// The readers of the running round are the kept ones again, in each row.
+fn restore_all(rows: &mut IndexMap<u64, Option<Row>>)
+    ensures places { EachPlace IsRestored rows.old.entries rows.new.entries }
+    ensures room { spare rows.new ≡ spare rows.old }
+{
+    for i in 0..rows.len() {
+        if let Some(place) = rows.get_index_mut(i) {
+            restore_in(place);
+        }
+    }
+}
+
+/// Forgets, for the running round, that a cell has read, in each row.
+fn forget_all(rows: &mut IndexMap<u64, Option<Row>>, cell: Cell)
+    ensures places { EachPlace (IsForgotten cell) rows.old.entries rows.new.entries }
+    ensures room { spare rows.new ≡ spare rows.old }
+{
+    for i in 0..rows.len() {
+        if let Some(place) = rows.get_index_mut(i) {
+            forget_in(place, cell);
+        }
+    }
 }
