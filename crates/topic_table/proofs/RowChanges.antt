@@ -13,11 +13,13 @@ use Rattle.indexmap.specs.IndexMap.{set_value_at}
 use Rattle.cell_refs.specs.declared.grid.Cell.{Cell}
 use Rattle.cell_refs.specs.Cell.{is_among}
 use Rattle.cell_values.specs.declared.topics.Topic.{Topic}
+use Rattle.cell_values.specs.declared.values.Value.{Value}
 use Rattle.cell_values.specs.Topic.{same_topic}
 use Rattle.cell_values.proofs.PublicLaws.{same_topics}
 use Rattle.topic_table.specs.declared.places.Row.{Row}
 use Rattle.topic_table.specs.Rows.{EachPlace, IsOnce, IsRising, connected, is_since_place, is_topic_place, is_unread_place, kept_in, live, live_entry, readings_in, row_at, running_in, table_of, topic_in}
-use Rattle.topic_table.specs.Table.{ConnectedTopic, IsTable, Readings, TableState, has_read, has_reader, id_of, is_no_cell, leaving, readers_of, running_of, topic_at, topics_without}
+use Rattle.topic_table.specs.Table.{ConnectedTopic, IsTable, Readings, TableState, TakesOut, has_read, has_reader, id_of, is_no_cell, leaving, readers_of, running_of, topic_at, topics_with_value, topics_without}
+use Rattle.topic_table.specs.TopicKey.{same_topic_is}
 use Rattle.topic_table.proofs.RowLaws.{connected_at, place_of, readers-at, running-at, topic-at}
 
 no_loop : (a b : ℕ) → a ≡ b → a < b → ⊥
@@ -409,3 +411,199 @@ module _ (R : Option Row → Option Row → Type 0) where
   progress-all (suc i) [] fs far is = subst (λ l. EachPlace R [] l) (sym is) tt
   progress-all (suc i) (e ∷ es) [] far is = absurd is
   progress-all (suc i) (e ∷ es) (f ∷ fs) far is = (is.0, is.1, progress-all i es fs (omega arith) is.2)
+
+-- a way through a list that passes one more item
+module _ {X : Type 0} (p : X → Bool) where
+  any-step : (xs : List X) (i : ℕ) (x : X) → list_any p (take i xs) ≡ false → Some x ≡ slice_get xs i → p x ≡ false → list_any p (take (suc i) xs) ≡ false
+  any-step [] i x none at fails = absurd (none-some x (sym at))
+  any-step (y ∷ ys) zero x none at fails = ap (λ b. b || false) (ap p (sym (same_Some x y at)) ∙ fails)
+  any-step (y ∷ ys) (suc i) x none at fails = by (p y) none (any-step ys i x)
+    where
+      by : (b : Bool) → (b || list_any p (take i ys)) ≡ false → (list_any p (take i ys) ≡ false → Some x ≡ slice_get ys i → p x ≡ false → list_any p (take (suc i) ys) ≡ false) → (b || list_any p (take (suc i) ys)) ≡ false
+      by true h rest = absurd (true≢false h)
+      by false h rest = rest h at fails
+
+  any-end : (xs : List X) (i : ℕ) → list_any p (take i xs) ≡ false → None ≡ slice_get xs i → list_any p (take (suc i) xs) ≡ false
+  any-end [] i none at = refl
+  any-end (y ∷ ys) zero none at = absurd (none-some y at)
+  any-end (y ∷ ys) (suc i) none at = by (p y) none (any-end ys i)
+    where
+      by : (b : Bool) → (b || list_any p (take i ys)) ≡ false → (list_any p (take i ys) ≡ false → None ≡ slice_get ys i → list_any p (take (suc i) ys) ≡ false) → (b || list_any p (take (suc i) ys)) ≡ false
+      by true h rest = absurd (true≢false h)
+      by false h rest = rest h at
+
+  pub any-more : (xs : List X) (i : ℕ) (x : X) → list_any p (take i xs) ≡ false → Some x ≡ slice_get xs i → p x ≡ false → list_any p (take (i + 1) xs) ≡ false
+  any-more xs i x none at fails =
+      let one : suc i ≡ i + 1 = omega arith in
+      subst (λ n. list_any p (take n xs) ≡ false) one (any-step xs i x none at fails)
+
+  pub any-past : (xs : List X) (i : ℕ) → list_any p (take i xs) ≡ false → None ≡ slice_get xs i → list_any p (take (i + 1) xs) ≡ false
+  any-past xs i none at =
+      let one : suc i ≡ i + 1 = omega arith in
+      subst (λ n. list_any p (take n xs) ≡ false) one (any-end xs i none at)
+
+  pub any-whole : (xs : List X) (i : ℕ) → length xs ≤ i → list_any p (take i xs) ≡ false → list_any p xs ≡ false
+  any-whole [] i far none = refl
+  any-whole (y ∷ ys) zero far none = absurd (omega arith)
+  any-whole (y ∷ ys) (suc i) far none = by (p y) none (any-whole ys i (omega arith))
+    where
+      by : (b : Bool) → (b || list_any p (take i ys)) ≡ false → (list_any p (take i ys) ≡ false → list_any p ys ≡ false) → (b || list_any p ys) ≡ false
+      by true h rest = absurd (true≢false h)
+      by false h rest = rest h
+
+-- the id of a place that has a row
+pub id-in : (p : Option Row → Bool) → p None ≡ false → (id : ℕ) (place : Option Row) → p place ≡ true → Some id ≡ option_map (λ (t : Topic × ℕ). t.1) (topic_in (Some (id, place)))
+id-in p empty id None holds = absurd (true≢false (sym holds ∙ empty))
+id-in p empty id (Some row) holds = refl
+
+-- a place that is sought has a topic
+pub topic-sought : (p : Option Row → Bool) → p None ≡ false → (found : Option (ℕ × Option Row)) → option_map_or (λ (e : ℕ × Option Row). p e.1) found false ≡ true → is_some (topic_in found) ≡ true
+topic-sought p empty None holds = absurd (true≢false (sym holds))
+topic-sought p empty (Some e) holds = by e.1 holds
+  where
+    by : (place : Option Row) → p place ≡ true → is_some (topic_in (Some (e.0, place))) ≡ true
+    by None holds = absurd (true≢false (sym holds ∙ empty))
+    by (Some row) holds = refl
+
+-- the row of a topic that leaves
+row-leaving : (found : Option (ℕ × Option Row)) (topic : Topic) (id : ℕ) → topic_in found ≡ Some (topic, id) → (row : Row) × (found ≡ Some (id, Some row))
+row-leaving None topic id is = absurd (none-some (topic, id) is)
+row-leaving (Some e) topic id is = by e.1 refl is
+  where
+    by : (place : Option Row) → e.1 ≡ place → topic_in (Some (e.0, place)) ≡ Some (topic, id) → (row : Row) × (Some e ≡ Some (id, Some row))
+    by None at is = absurd (none-some (topic, id) is)
+    by (Some row) at is = (row, λ i. Some (ap (λ (t : Topic × ℕ). t.1) (same_Some {A = Topic × ℕ} (row.topic, e.0) (topic, id) is) i, at i))
+
+pub take-set_value_at : (es : List (ℕ × Option Row)) (i : ℕ) (place : Option Row) → take i (set_value_at es i place) ≡ take i es
+take-set_value_at [] zero place = refl
+take-set_value_at [] (suc i) place = refl
+take-set_value_at (e ∷ es) zero place = refl
+take-set_value_at (e ∷ es) (suc i) place = ap {B = List (ℕ × Option Row)} (λ l. e ∷ l) (take-set_value_at es i place)
+
+-- a topic leaves the table
+module _ (es fs : List (ℕ × Option Row)) (greatest i : ℕ) (rising : IsRising 0 es greatest) (topic : Topic) (id : ℕ) (at : topic_in (slice_get es i) ≡ Some (topic, id))
+    (is : fs ≡ set_value_at es i None) where
+  stands : (row : Row) × (slice_get es i ≡ Some (id, Some row))
+  stands = row-leaving (slice_get es i) topic id at
+
+  pub rising-taken : IsRising 0 fs greatest
+  rising-taken = subst (λ l. IsRising 0 l greatest) (sym is) (rising-set_at es 0 greatest i None rising)
+
+  pub connected-taken : map connected (live fs) ≡ topics_without (map connected (live es)) id
+  connected-taken = ap (λ l. map connected (live l)) is ∙ connected-out es 0 greatest i id stands.0 rising stands.1
+
+  row-taken : (q : ℕ) → row_at fs q ≡ cond (nat_eq id q) None (row_at es q)
+  row-taken q = ap (λ l. row_at l q) is ∙ row-out es 0 greatest i id stands.0 q rising stands.1
+
+  none_left : (f : Option Row → Bool) → f None ≡ false → (b : Bool) (place : Option Row) → f (cond b None place) ≡ (not b && f place)
+  none_left f none true place = none
+  none_left f none false place = refl
+
+  pub taken-out : (room room' : ℕ) → TakesOut (table_of es greatest room) (table_of fs greatest room') id
+  taken-out room room' = record {
+    topics = connected-taken;
+    greatest = refl;
+    readers = λ q cell.
+        ap (λ l. is_among l cell) (readers-at fs greatest greatest room' rising-taken q) ∙ ap (λ place. is_among (kept_in place) cell) (row-taken q)
+        ∙ none_left (λ place. is_among (kept_in place) cell) refl (nat_eq id q) (row_at es q)
+        ∙ ap (λ l. not (nat_eq id q) && is_among l cell) (sym (readers-at es greatest greatest room rising q));
+    running = λ q cell.
+        ap (λ l. is_among l cell) (running-at fs greatest greatest room' rising-taken q) ∙ ap (λ place. is_among (running_in place) cell) (row-taken q)
+        ∙ none_left (λ place. is_among (running_in place) cell) refl (nat_eq id q) (row_at es q)
+        ∙ ap (λ l. not (nat_eq id q) && is_among l cell) (sym (running-at es greatest greatest room rising q));
+  }
+
+-- ids rise along the topics
+abbrev pub AreApart : List ConnectedTopic → Type 0
+AreApart [] = Unit {0}
+AreApart (t ∷ ts) = AllByRecursion (λ (s : ConnectedTopic). t.id < s.id) ts × AreApart ts
+
+pub apart-live : (es : List (ℕ × Option Row)) (low high : ℕ) → IsRising low es high → AreApart (map connected (live es))
+apart-live [] low high rising = tt
+apart-live (e ∷ es) low high rising = by e.1 (apart-live es e.0 high rising.1) (ids-live (λ id. e.0 < id) es (between es e.0 high rising.1))
+  where
+    by : (place : Option Row) → AreApart (map connected (live es)) → AllByRecursion (λ (t : ConnectedTopic). e.0 < t.id) (map connected (live es)) → AreApart (map connected (live_entry e.0 place ++ live es))
+    by None rest above = rest
+    by (Some row) rest above = (above, rest)
+
+-- what holds of each holds of the one found
+all-found : {X : Type 0} (Q : X → Type 0) (P : X → Bool) (xs : List X) (x : X) → AllByRecursion Q xs → find P xs ≡ Some x → Q x
+all-found Q P [] x all found = absurd (none-some x found)
+all-found Q P (y ∷ ys) x all found =
+    elim (P y) as (λ b. cond b (Some y) (find P ys) ≡ Some x → Q x) [
+      | true ↦ λ found. subst Q (same_Some y x found) all.0
+      | false ↦ λ found. all-found Q P ys x all.1 found
+    ] found
+
+-- the topics, where one has left: each id but its own
+id_of-head : (t : ConnectedTopic) (ts : List ConnectedTopic) (q : Topic) → id_of (t ∷ ts) q ≡ cond (same_topic q t.topic) (Some t.id) (id_of ts q)
+id_of-head t ts q = elim (same_topic q t.topic) as (λ b. option_map (λ (s : ConnectedTopic). s.id) (cond b (Some t) (find (λ (s : ConnectedTopic). same_topic q s.topic) ts)) ≡ cond b (Some t.id) (id_of ts q)) [
+  | true ↦ refl
+  | false ↦ refl
+]
+
+id_of-none : (ts : List ConnectedTopic) (q : Topic) → AllByRecursion (λ (s : ConnectedTopic). same_topic q s.topic ≡ false) ts → id_of ts q ≡ None
+id_of-none [] q all = refl
+id_of-none (t ∷ ts) q all = id_of-head t ts q ∙ ap (λ b. cond b (Some t.id) (id_of ts q)) all.0 ∙ id_of-none ts q all.1
+
+pub id_of-without : (P : ConnectedTopic → Bool) (ts : List ConnectedTopic) (out : ConnectedTopic) → IsOnce ts → AreApart ts → find P ts ≡ Some out → (q : Topic)
+    → id_of (topics_without ts out.id) q ≡ cond (same_topic out.topic q) None (id_of ts q)
+id_of-without P [] out once apart found q = absurd (none-some out found)
+id_of-without P (t ∷ ts) out once apart found q =
+    elim (P t) as (λ b. cond b (Some t) (find P ts) ≡ Some out → id_of (topics_without (t ∷ ts) out.id) q ≡ cond (same_topic out.topic q) None (id_of (t ∷ ts) q)) [
+      | true ↦ λ found. subst (λ (s : ConnectedTopic). id_of (topics_without (t ∷ ts) s.id) q ≡ cond (same_topic s.topic q) None (id_of (t ∷ ts) q)) (same_Some t out found) first
+      | false ↦ λ found. other found (id_of-without P ts out once.1 apart.1 found q)
+    ] found
+  where
+    apart_all : AllByRecursion (λ (s : ConnectedTopic). same_topic t.topic s.topic ≡ false) ts
+    apart_all = fails_everywhere (λ (s : ConnectedTopic). same_topic t.topic s.topic) ts once.0
+    first : id_of (topics_without (t ∷ ts) t.id) q ≡ cond (same_topic t.topic q) None (id_of (t ∷ ts) q)
+    first =
+        ap (λ b. id_of (cond (not b) (t ∷ topics_without ts t.id) (topics_without ts t.id)) q) (eq-eqb t.id t.id refl)
+        ∙ ap (λ l. id_of l q) (none_out ts t.id apart.0)
+        ∙ elim (same_topic t.topic q) as (λ b. same_topic t.topic q ≡ b → id_of ts q ≡ cond b None (id_of (t ∷ ts) q)) [
+          | true ↦ λ same. id_of-none ts q (subst (λ r. AllByRecursion (λ (s : ConnectedTopic). same_topic r s.topic ≡ false) ts) (same_topic_is t.topic q same) apart_all)
+          | false ↦ λ e. sym (id_of-head t ts q ∙ ap (λ b. cond b (Some t.id) (id_of ts q)) (same_topics.symm q t.topic ∙ e))
+        ] refl
+    other : find P ts ≡ Some out → id_of (topics_without ts out.id) q ≡ cond (same_topic out.topic q) None (id_of ts q)
+        → id_of (topics_without (t ∷ ts) out.id) q ≡ cond (same_topic out.topic q) None (id_of (t ∷ ts) q)
+    other found rest =
+        let below = all-found (λ (s : ConnectedTopic). t.id < s.id) P ts out apart.0 found in
+        let differs : same_topic t.topic out.topic ≡ false = all-found (λ (s : ConnectedTopic). same_topic t.topic s.topic ≡ false) P ts out apart_all found in
+        ap (λ b. id_of (cond (not b) (t ∷ topics_without ts out.id) (topics_without ts out.id)) q) (apart_back t.id out.id below)
+        ∙ id_of-head t (topics_without ts out.id) q
+        ∙ elim (same_topic q t.topic) as (λ b. same_topic q t.topic ≡ b → cond b (Some t.id) (id_of (topics_without ts out.id) q) ≡ cond (same_topic out.topic q) None (cond b (Some t.id) (id_of ts q))) [
+          | true ↦ λ same. ap (λ b. cond b None (Some t.id)) (sym (ap (same_topic out.topic) (same_topic_is q t.topic same) ∙ same_topics.symm out.topic t.topic ∙ differs))
+          | false ↦ λ e. rest
+        ] refl
+        ∙ ap (cond (same_topic out.topic q) None) (sym (id_of-head t ts q))
+
+-- the topic that leaves is the one found
+pub found-leaving : (found : Option ConnectedTopic) (topic : Topic) (id : ℕ) → Some (topic, id) ≡ option_map leaving found → (t : ConnectedTopic) × (found ≡ Some t) × (topic ≡ t.topic) × (id ≡ t.id)
+found-leaving None topic id is = absurd (none-some (topic, id) (sym is))
+found-leaving (Some t) topic id is =
+    let parts = same_Some {A = Topic × ℕ} (topic, id) (t.topic, t.id) is in
+    (t, refl, ap (λ (p : Topic × ℕ). p.0) parts, ap (λ (p : Topic × ℕ). p.1) parts)
+
+-- one more topic
+pub id_of-push : (ts : List ConnectedTopic) (t : ConnectedTopic) → id_of ts t.topic ≡ None → (q : Topic) → id_of (ts ++ t ∷ []) q ≡ cond (same_topic t.topic q) (Some t.id) (id_of ts q)
+id_of-push ts t absent q = by ts (absent-none ts t.topic absent)
+  where
+    by : (ss : List ConnectedTopic) → AllByRecursion (λ (s : ConnectedTopic). same_topic t.topic s.topic ≡ false) ss → id_of (ss ++ t ∷ []) q ≡ cond (same_topic t.topic q) (Some t.id) (id_of ss q)
+    by [] all = id_of-head t [] q ∙ ap (λ b. cond b (Some t.id) None) (same_topics.symm q t.topic)
+    by (s ∷ ss) all =
+        id_of-head s (ss ++ t ∷ []) q
+        ∙ elim (same_topic q s.topic) as (λ b. same_topic q s.topic ≡ b → cond b (Some s.id) (id_of (ss ++ t ∷ []) q) ≡ cond (same_topic t.topic q) (Some t.id) (cond b (Some s.id) (id_of ss q))) [
+          | true ↦ λ same. ap (λ b. cond b (Some t.id) (Some s.id)) (sym (ap (same_topic t.topic) (same_topic_is q s.topic same) ∙ all.0))
+          | false ↦ λ e. by ss all.1
+        ] refl
+        ∙ ap (cond (same_topic t.topic q) (Some t.id)) (sym (id_of-head s ss q))
+
+-- ids stay where a value changes
+pub id_of-valued : (ts : List ConnectedTopic) (id : ℕ) (value : Value) (q : Topic) → id_of (topics_with_value ts id value) q ≡ id_of ts q
+id_of-valued [] id value q = refl
+id_of-valued (t ∷ ts) id value q =
+    elim (nat_eq id t.id) as (λ b. id_of (cond b (record t { value = value }) t ∷ topics_with_value ts id value) q ≡ id_of (t ∷ ts) q) [
+      | true ↦ id_of-head (record t { value = value }) (topics_with_value ts id value) q ∙ ap (cond (same_topic q t.topic) (Some t.id)) (id_of-valued ts id value q) ∙ sym (id_of-head t ts q)
+      | false ↦ id_of-head t (topics_with_value ts id value) q ∙ ap (cond (same_topic q t.topic) (Some t.id)) (id_of-valued ts id value q) ∙ sym (id_of-head t ts q)
+    ]

@@ -382,3 +382,17 @@ topic-of id (Some row) = refl
 pub value-of : (id : ℕ) (place : Option Row) → option_map (λ (row : Row). row.value) place ≡ option_map (λ (t : ConnectedTopic). t.value) (connected_at id place)
 value-of id None = refl
 value-of id (Some row) = refl
+
+-- what is forgotten one after the other
+pub forget-both : (x a b s : Bool) → ((x && not (a && s)) && not (b && s)) ≡ (x && not ((a || b) && s))
+forget-both true true true true = refl
+forget-both true true true false = refl
+forget-both true true false true = refl
+forget-both true true false false = refl
+forget-both true false b s = refl
+forget-both false a b s = refl
+
+pub forget-next : (x a b : Bool) → ((x && not a) && not b) ≡ (x && not (a || b))
+forget-next true true b = refl
+forget-next true false b = refl
+forget-next false a b = refl

@@ -1,8 +1,10 @@
-ghost use Rattle.std.specs.Prelude.{◌≡◌, ℕ, ◌+◌, ◌<◌, ◌≤◌, [], ◌∷◌, ◌++◌, List, Option, Some, None, true, false, not, ◌&&◌, ◌||◌, is_some, nat_eq, length, take, slice_get, IsOk, IfOk, IfErr, OnOk, OnErr, IfSome, IfNone};
+ghost use Rattle.std.specs.Prelude.{◌≡◌, ℕ, ◌+◌, ◌<◌, ◌≤◌, [], ◌∷◌, ◌++◌, List, Option, Some, None, true, false, not, ◌&&◌, ◌||◌, if◌then◌else◌, is_some, nat_eq, length, take, slice_get, IsOk, IfOk, IfErr, OnOk, OnErr, IfSome, IfNone};
 ghost use Rattle.std.specs.List.{IsDistinct, list_any};
 ghost use Rattle.std.specs.Option.{option_copied, option_map, option_map_or};
 ghost use Rattle.cell_refs.specs.declared.grid.Cell.{Cell as OneCell};
 ghost use Rattle.cell_refs.specs.Cell.{same_cell};
+ghost use Rattle.cell_values.specs.declared.topics.Topic.{Topic as OneTopic};
+ghost use Rattle.cell_values.specs.Topic.{same_topic};
 
 use super::places::{
     Row, forget_in, is_of, is_since, is_unread, keep_in, read_in, restore_in, take_in,
@@ -278,14 +280,12 @@ impl Rows {
     /// Takes out the first topic without kept readers.
     pub fn pop_unread(&mut self) -> Option<(Topic, u64)>
         ensures first { result ≡ option_map leaving (first_unread self.old) }
+        ensures ids { IfSome result (λ out. (topic : OneTopic) → id_of self.new.topics topic
+            ≡ (if same_topic out.0 topic then None else id_of self.old.topics topic)) }
         ensures out { IfSome result (λ out. TakesOut self.old self.new out.1) }
         ensures none { IfNone result (KeepsTable self.old self.new) }
     {
-        let start = match self.passed {
-            Passed::Unread(count) => count,
-            Passed::Since(_, _) => 0,
-        };
-        let Some(place) = unread_place(&self.rows, start) else {
+        let Some(place) = next_unread(&self.rows, self.passed) else {
             self.give_back();
             return None;
         };
@@ -296,14 +296,12 @@ impl Rows {
     /// Takes out the first topic that was connected in a round.
     pub fn pop_since(&mut self, round: u64) -> Option<(Topic, u64)>
         ensures first { result ≡ option_map leaving (first_since self.old round) }
+        ensures ids { IfSome result (λ out. (topic : OneTopic) → id_of self.new.topics topic
+            ≡ (if same_topic out.0 topic then None else id_of self.old.topics topic)) }
         ensures out { IfSome result (λ out. TakesOut self.old self.new out.1) }
         ensures none { IfNone result (KeepsTable self.old self.new) }
     {
-        let start = match self.passed {
-            Passed::Since(since, count) if since == round => count,
-            _ => 0,
-        };
-        let Some(place) = since_place(&self.rows, round, start) else {
+        let Some(place) = next_since(&self.rows, self.passed, round) else {
             self.give_back();
             return None;
         };
@@ -322,7 +320,7 @@ impl Rows {
 
 ghost use Rattle.topic_table.specs.declared.places.Row.{Row as OneRow};
 ghost use Rattle.indexmap.specs.IndexMap.{set_value_at, spare};
-ghost use Rattle.topic_table.specs.Rows.{EachPlace, IsForgotten, IsKept, IsReady, IsRestored, IsRising, connected, is_since_place, is_unread_place, live, row_at, topic_in};
+ghost use Rattle.topic_table.specs.Rows.{EachPlace, HasPassed, IsForgotten, IsKept, IsReady, IsRestored, IsRising, connected, is_since_place, is_unread_place, live, row_at, topic_in};
 ghost use Rattle.topic_table.specs.Table.{id_of};
 ghost use Rattle.std.specs.Prelude.{map};
 
@@ -400,6 +398,37 @@ fn since_place(rows: &IndexMap<u64, Option<Row>>, round: u64, start: usize) -> O
         }
     }
     None
+}
+
+/// Where the first row without kept readers stands, with what was passed before.
+fn next_unread(rows: &IndexMap<u64, Option<Row>>, passed: Passed) -> Option<usize>
+    requires { HasPassed rows.now.entries passed }
+    ensures first { IfSome result (λ i. list_any (λ e. is_unread_place e.1)
+        (take i rows.now.entries) ≡ false) }
+    ensures at { IfSome result (λ i. option_map_or (λ e. is_unread_place e.1)
+        (slice_get rows.now.entries i) false ≡ true) }
+    ensures none { IfNone result (list_any (λ e. is_unread_place e.1) rows.now.entries ≡ false) }
+{
+    match passed {
+        Passed::Unread(count) => unread_place(rows, count),
+        Passed::Since(_, _) => unread_place(rows, 0),
+    }
+}
+
+/// Where the first row stands that was connected in a round, with what was passed before.
+fn next_since(rows: &IndexMap<u64, Option<Row>>, passed: Passed, round: u64) -> Option<usize>
+    requires { HasPassed rows.now.entries passed }
+    ensures first { IfSome result (λ i. list_any (λ e. is_since_place round e.1)
+        (take i rows.now.entries) ≡ false) }
+    ensures at { IfSome result (λ i. option_map_or (λ e. is_since_place round e.1)
+        (slice_get rows.now.entries i) false ≡ true) }
+    ensures none { IfNone result (list_any (λ e. is_since_place round e.1) rows.now.entries
+        ≡ false) }
+{
+    match passed {
+        Passed::Since(since, count) if since == round => since_place(rows, round, count),
+        _ => since_place(rows, round, 0),
+    }
 }
 
 /// Empties a place, and gives its topic.

@@ -1,0 +1,19 @@
+use Rattle.std.proofs.Common.{◌≡◌, ◌+◌, ℕ, false, List, Option, Some, None, length, map, sym, ap, ◌∙◌, refl, arith}
+use Rattle.std.specs.Prelude.{find}
+use Rattle.std.specs.Option.{option_map, option_map_or}
+use Rattle.cell_values.specs.declared.topics.Topic.{Topic}
+use Rattle.cell_values.specs.Topic.{same_topic}
+use Rattle.topic_table.specs.declared.places.Row.{Row}
+use Rattle.topic_table.specs.Rows.{connected, is_since_place, live, topic_in}
+use Rattle.topic_table.specs.Table.{ConnectedTopic}
+use Rattle.topic_table.proofs.RowChanges.{agrees-topic, any-more, any-past, any-whole, first-found, id-in, id-leaving, none-found}
+use Rattle.topic_table.proofs.rows.since_place.Goals as goal
+use Rattle.topic_table.proofs.rows.since_place.Goals.{in-Some+else-is_since, in_default}
+
+pub loop-i-preserved : goal.loop-i-preserved
+loop-i-preserved c =
+    let es = c.args.rows.now.entries in
+    elim c.match-get_index.branch [
+      | in-Some+else-is_since w ↦ any-more (λ (e : ℕ × Option Row). is_since_place c.args.round e.1) es c.loop-i.i (w.in-Some.field-0-0.now, w.in-Some.place.now) c.loop-i.invariant w.in-Some.ensures.entry (sym w.if-is_since.ensures)
+      | in_default w ↦ any-past (λ (e : ℕ × Option Row). is_since_place c.args.round e.1) es c.loop-i.i c.loop-i.invariant w.in_default.ensures.entry
+    ]
