@@ -88,10 +88,10 @@ module _ (xs : List Cell) (cell : Cell) (p : ℕ) (at : Some p ≡ position (sam
       → is_among (drop (f + 1) (swap xs p f)) q ≡ (is_among (drop f xs) q && not (same_cell q cell))
   forget_kept-running f once behind q =
       let first : drop f (swap xs p f) ≡ cell ∷ drop (f + 1) (swap xs p f)
-          = drop-swap_at xs p f cell behind there ∙ ap (λ x. x ∷ drop (f + 1) (swap xs p f)) (stands_at cell) in
+      = drop-swap_at xs p f cell behind there ∙ ap (λ x. x ∷ drop (f + 1) (swap xs p f)) (stands_at cell) in
       let apart : is_among (drop (f + 1) (swap xs p f)) cell ≡ false
-          = none_apart same_cell cell (drop (f + 1) (swap xs p f))
-            (IsDistinct-head same_cell cell (drop (f + 1) (swap xs p f)) (subst (IsDistinct same_cell) first (IsDistinct-drop same_cell f (swap xs p f) once))) in
+      = none_apart same_cell cell (drop (f + 1) (swap xs p f))
+      (IsDistinct-head same_cell cell (drop (f + 1) (swap xs p f)) (subst (IsDistinct same_cell) first (IsDistinct-drop same_cell f (swap xs p f) once))) in
       let within : f < length xs = omega (arith, there) in
       other_of (is_among (drop f xs) q) (same_cell q cell) (is_among (drop (f + 1) (swap xs p f)) q)
       (sym (any-drop-swap (same_cell q) f xs p f behind (omega arith) there within) ∙ ap (λ l. is_among l q) first)

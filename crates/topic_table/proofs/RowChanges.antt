@@ -90,6 +90,7 @@ fails_everywhere p (x ∷ xs) none = (first (p x) (list_any p xs) none, fails_ev
     first : (a b : Bool) → (a || b) ≡ false → a ≡ false
     first true b h = absurd (true≢false h)
     first false b h = refl
+
     second : (a b : Bool) → (a || b) ≡ false → b ≡ false
     second true b h = absurd (true≢false h)
     second false b h = h
@@ -114,6 +115,7 @@ facts-of es greatest room rising once = record {
     by : (id : ℕ) (P : Option Row → Type 0) → (P None → ⊥) → (place : Option Row) → P place → is_some (connected_at id place) ≡ true
     by id P none None holds = absurd (none holds)
     by id P none (Some row) holds = refl
+
     there : (id : ℕ) (P : Option Row → Type 0) → (P None → ⊥) → P (row_at es id) → is_some (topic_at (map connected (live es)) id) ≡ true
     there id P none holds = ap is_some (topic-at es greatest rising id) ∙ by id P none (row_at es id) holds
 
@@ -148,6 +150,7 @@ once-push ts t once absent = by ts once (absent-none ts t.topic absent)
           | true ↦ λ h. absurd (true≢false h)
           | false ↦ λ h. last s ss h apart
         ] none
+
     by : (ss : List ConnectedTopic) → IsOnce ss → AllByRecursion (λ (s : ConnectedTopic). same_topic t.topic s.topic ≡ false) ss → IsOnce (ss ++ t ∷ [])
     by [] once all = (refl, tt)
     by (s ∷ ss) once all = (last s ss once.0 all.0, by ss once.1 all.1)
@@ -309,9 +312,11 @@ module _ (P : ConnectedTopic → Bool) (p : Option Row → Bool) (empty : p None
       second : (a b : Bool) → (a || b) ≡ false → b ≡ false
       second true b h = absurd (true≢false h)
       second false b h = h
+
       first : (a b : Bool) → (a || b) ≡ false → a ≡ false
       first true b h = absurd (true≢false h)
       first false b h = refl
+
       by : (place : Option Row) → e.1 ≡ place → topic_in (slice_get es i) ≡ option_map leaving (find P (map connected (live es)))
           → topic_in (slice_get es i) ≡ option_map leaving (find P (map connected (live_entry e.0 e.1 ++ live es)))
       by None is rest = rest ∙ ap (λ place. option_map leaving (find P (map connected (live_entry e.0 place ++ live es)))) (sym is)
@@ -327,9 +332,11 @@ module _ (P : ConnectedTopic → Bool) (p : Option Row → Bool) (empty : p None
       second : (a b : Bool) → (a || b) ≡ false → b ≡ false
       second true b h = absurd (true≢false h)
       second false b h = h
+
       first : (a b : Bool) → (a || b) ≡ false → a ≡ false
       first true b h = absurd (true≢false h)
       first false b h = refl
+
       by : (place : Option Row) → e.1 ≡ place → find P (map connected (live es)) ≡ None → find P (map connected (live_entry e.0 e.1 ++ live es)) ≡ None
       by None is rest = ap (λ place. find P (map connected (live_entry e.0 place ++ live es))) is ∙ rest
       by (Some row) is rest =
@@ -340,11 +347,12 @@ module _ (P : ConnectedTopic → Bool) (p : Option Row → Bool) (empty : p None
 -- each row stands under its id
 own-row : (es : List (ℕ × Option Row)) (low high : ℕ) → IsRising low es high → AllByRecursion (λ (f : ℕ × Option Row). row_at es f.0 ≡ f.1) es
 own-row [] low high rising = tt
-own-row (e ∷ es) low high rising =
-    (ap (λ b. place_of (cond b (Some e.1) (lookup (nat_eq e.0) es))) (eq-eqb e.0 e.0 refl),
-    all-both (λ (f : ℕ × Option Row). e.0 < f.0) (λ (f : ℕ × Option Row). row_at es f.0 ≡ f.1) (λ (f : ℕ × Option Row). row_at (e ∷ es) f.0 ≡ f.1)
-    (λ f above own. ap (λ b. place_of (cond b (Some e.1) (lookup (nat_eq f.0) es))) (apart_back e.0 f.0 above) ∙ own)
-    es (between es e.0 high rising.1) (own-row es e.0 high rising.1))
+own-row (e ∷ es) low high rising = (
+  ap (λ b. place_of (cond b (Some e.1) (lookup (nat_eq e.0) es))) (eq-eqb e.0 e.0 refl),
+  all-both (λ (f : ℕ × Option Row). e.0 < f.0) (λ (f : ℕ × Option Row). row_at es f.0 ≡ f.1) (λ (f : ℕ × Option Row). row_at (e ∷ es) f.0 ≡ f.1)
+      (λ f above own. ap (λ b. place_of (cond b (Some e.1) (lookup (nat_eq f.0) es))) (apart_back e.0 f.0 above) ∙ own)
+      es (between es e.0 high rising.1) (own-row es e.0 high rising.1),
+)
 
 pub agrees-unread : (es : List (ℕ × Option Row)) (greatest room : ℕ) → IsRising 0 es greatest
     → Agrees (λ (t : ConnectedTopic). is_no_cell (readers_of (table_of es greatest room) t.id)) is_unread_place es
@@ -557,6 +565,7 @@ id_of-without P (t ∷ ts) out once apart found q =
   where
     apart_all : AllByRecursion (λ (s : ConnectedTopic). same_topic t.topic s.topic ≡ false) ts
     apart_all = fails_everywhere (λ (s : ConnectedTopic). same_topic t.topic s.topic) ts once.0
+
     first : id_of (topics_without (t ∷ ts) t.id) q ≡ cond (same_topic t.topic q) None (id_of (t ∷ ts) q)
     first =
         ap (λ b. id_of (cond (not b) (t ∷ topics_without ts t.id) (topics_without ts t.id)) q) (eq-eqb t.id t.id refl)
@@ -565,6 +574,7 @@ id_of-without P (t ∷ ts) out once apart found q =
           | true ↦ λ same. id_of-none ts q (subst (λ r. AllByRecursion (λ (s : ConnectedTopic). same_topic r s.topic ≡ false) ts) (same_topic_is t.topic q same) apart_all)
           | false ↦ λ e. sym (id_of-head t ts q ∙ ap (λ b. cond b (Some t.id) (id_of ts q)) (same_topics.symm q t.topic ∙ e))
         ] refl
+
     other : find P ts ≡ Some out → id_of (topics_without ts out.id) q ≡ cond (same_topic out.topic q) None (id_of ts q)
         → id_of (topics_without (t ∷ ts) out.id) q ≡ cond (same_topic out.topic q) None (id_of (t ∷ ts) q)
     other found rest =

@@ -1,5 +1,5 @@
 -- The rows of the table: what stands under an id, and what a write, an append, an emptied place and a cleaning leave.
-use Rattle.std.proofs.Common.{◌≡◌, ℕ, zero, suc, ◌+◌, ◌-◌, ◌<◌, ◌≤◌, Bool, true, false, cond, not, ◌&&◌, ◌||◌, List, [], ◌∷◌, ◌++◌, Option, None, Some, is_some, map, length, take, refl, ap, sym, subst, ◌∙◌, true≢false, arith}
+use Rattle.std.proofs.Common.{◌≡◌, ℕ, zero, suc, ◌+◌, ◌-◌, ◌<◌, ◌≤◌, Bool, true, false, cond, not, ◌&&◌, ◌||◌, List, [], ◌∷◌, ◌++◌, Option, None, Some, is_some, map, length, take, get_or, refl, ap, sym, subst, ◌∙◌, true≢false, arith}
 use Rattle.std.specs.Prelude.{IsSome, OnErr, OnOk, Result, Ok, Err, nat_eq, find, filter}
 use Rattle.std.specs.Cmp.{nat_eq_equiv}
 use Rattle.std.specs.List.{list_any}
@@ -7,11 +7,12 @@ use Rattle.std.specs.Map.{lookup, set_value}
 use Rattle.std.specs.Option.{option_map, option_map_or}
 use Rattle.std.proofs.lemmas.Bool.{eqb-true}
 use Rattle.std.proofs.lemmas.List.{map-append}
+use Rattle.std.proofs.lemmas.List.Folds.{list_any_more}
 use Rattle.std.proofs.lemmas.Map.{lookup-set_value}
 use Rattle.std.proofs.lemmas.Map.Made.{lookup-map_values}
 use Rattle.std.proofs.lemmas.Option.{none-some, same_Some}
 use Rattle.cell_refs.specs.declared.grid.Cell.{Cell}
-use Rattle.cell_refs.specs.Cell.{is_among}
+use Rattle.cell_refs.specs.Cell.{is_among, same_cell}
 use Rattle.cell_values.specs.declared.topics.Topic.{Topic}
 use Rattle.cell_values.specs.declared.values.Value.{Value}
 use Rattle.cell_values.specs.SameValue.{same_value}
@@ -309,6 +310,7 @@ connected-take (e ∷ es) low high rising id old value there =
     first (Some row) same rest =
         ap {B = List ConnectedTopic} (λ l. connected (e.0, record row { value = value }) ∷ l) (sym rest)
         ∙ ap (λ b. cond b (record (connected (e.0, row)) { value = value }) (connected (e.0, row)) ∷ topics_with_value (map connected (live es)) id value) (sym same)
+
     other : (place : Option Row) → nat_eq id e.0 ≡ false → map connected (live (set_value (nat_eq id) es (with_value old value))) ≡ topics_with_value (map connected (live es)) id value
         → map connected (live_entry e.0 place ++ live (set_value (nat_eq id) es (with_value old value))) ≡ topics_with_value (map connected (live_entry e.0 place ++ live es)) id value
     other None apart rest = rest
@@ -396,3 +398,11 @@ pub forget-next : (x a b : Bool) → ((x && not a) && not b) ≡ (x && not (a ||
 forget-next true true b = refl
 forget-next true false b = refl
 forget-next false a b = refl
+
+-- one more cell is forgotten
+pub forget-step : (cells : List Cell) (i : ℕ) (q d : Cell) (new mid x : Bool) → i < length cells → new ≡ (mid && not (same_cell q (get_or cells i d))) → mid ≡ (x && not (is_among (take i cells) q))
+    → new ≡ (x && not (is_among (take (i + 1) cells) q))
+forget-step cells i q d new mid x within made before =
+    made ∙ ap (λ b. b && not (same_cell q (get_or cells i d))) before
+    ∙ forget-next x (is_among (take i cells) q) (same_cell q (get_or cells i d))
+    ∙ ap (λ b. x && not b) (sym (list_any_more (same_cell q) cells i d within))

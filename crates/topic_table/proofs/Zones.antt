@@ -121,9 +121,9 @@ module _ {X : Type 0} where
       let at_first : n + (i - n) ≡ i = omega arith in
       let at_second : n + (j - n) ≡ j = omega arith in
       let moved : drop n (swap xs i j) ≡ swap (drop n xs) (i - n) (j - n)
-          = subst (λ k. drop n (swap xs k j) ≡ swap (drop n xs) (i - n) (j - n)) at_first
-            (subst (λ k. drop n (swap xs (n + (i - n)) k) ≡ swap (drop n xs) (i - n) (j - n)) at_second
-            (drop-swap n xs (i - n) (j - n) (omega arith) (omega arith))) in
+      = subst (λ k. drop n (swap xs k j) ≡ swap (drop n xs) (i - n) (j - n)) at_first
+      (subst (λ k. drop n (swap xs (n + (i - n)) k) ≡ swap (drop n xs) (i - n) (j - n)) at_second
+      (drop-swap n xs (i - n) (j - n) (omega arith) (omega arith))) in
       ap (list_any p) moved
       ∙ any-swap p (drop n xs) (i - n) (j - n) (subst (λ k. i - n < k) (sym rest) (omega arith)) (subst (λ k. j - n < k) (sym rest) (omega arith))
 
@@ -161,7 +161,7 @@ module _ {X : Type 0} where
       let there : i - n < length (drop n xs) = subst (λ k. i - n < k) (sym rest) (omega arith) in
       let is_rest : x ≡ get_or (drop n xs) (i - n) x = is ∙ ap (λ k. get_or xs k x) (sym at) ∙ sym (get_or-drop n xs (i - n) x) in
       let moved : drop n (swap_remove xs i x) ≡ swap_remove (drop n xs) (i - n) x
-          = subst (λ k. drop n (swap_remove xs k x) ≡ swap_remove (drop n xs) (i - n) x) at (drop-swap_remove n xs (i - n) x (omega arith)) in
+      = subst (λ k. drop n (swap_remove xs k x) ≡ swap_remove (drop n xs) (i - n) x) at (drop-swap_remove n xs (i - n) x (omega arith)) in
       list_any-IsPermutation p (drop n xs) (x ∷ swap_remove (drop n xs) (i - n) x) (IsPermutation-swap_remove (drop n xs) (i - n) x there is_rest)
       ∙ ap (λ l. p x || list_any p l) (sym moved)
 

@@ -103,12 +103,7 @@ impl Rows {
     }
 
     /// Connects a topic that isn't there. A refusal changes nothing.
-    pub fn connect(
-        &mut self,
-        topic: Topic,
-        value: Value,
-        round: u64,
-    ) -> Result<u64, (Topic, Value)>
+    pub fn connect(&mut self, topic: Topic, value: Value, round: u64) -> Result<u64, (Topic, Value)>
         requires { id_of self.old.topics topic ≡ None }
         ensures id { IfOk result (λ id. id ≡ self.old.greatest + 1) }
         ensures topics { OnOk result (self.new.topics ≡ self.old.topics

@@ -8,8 +8,9 @@ loop-left-preserved c =
     let xs = c.loop-left.cells in
     let n = c.loop-left.left - 1 in
     let within : n < length xs = omega (arith, c.loop-left.invariant.0, c.loop-left-test.true) in
-    let one : n + 1 ≡ c.loop-left.left = omega (arith, c.loop-left-test.true) in
-    (omega (arith, c.loop-left.invariant.0, c.swap_remove.ensures.len),
-    λ q. ap (λ l. is_among (drop n l) q) c.swap_remove.ensures.cells
-    ∙ any-drop-swap_remove_first (same_cell q) n xs c.swap_remove.result within
-    ∙ ap (λ k. is_among (drop k xs) q) one ∙ c.loop-left.invariant.1 q)
+    let one : n + 1 ≡ c.loop-left.left = omega (arith, c.loop-left-test.true) in (
+      omega (arith, c.loop-left.invariant.0, c.swap_remove.ensures.len),
+      λ q. ap (λ l. is_among (drop n l) q) c.swap_remove.ensures.cells
+          ∙ any-drop-swap_remove_first (same_cell q) n xs c.swap_remove.result within
+          ∙ ap (λ k. is_among (drop k xs) q) one ∙ c.loop-left.invariant.1 q,
+    )

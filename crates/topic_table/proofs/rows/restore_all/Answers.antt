@@ -10,15 +10,17 @@ loop-i-preserved c =
     let es = c.args.rows.now.entries in
     let i = c.loop-i.i in
     elim c.match-get_index_mut.branch [
-      | in-Some w ↦
-          (subst (λ m. Progress IsRestored (i + 1) es m.entries) (sym w.rows-is)
-          (progress-more IsRestored i es c.loop-i.rows.entries w.in-Some.place.now w.restore_in.new.place c.loop-i.invariant.0 w.in-Some.ensures.value
-          (record { row = w.restore_in.ensures.bare; kept = w.restore_in.ensures.kept; running = w.restore_in.ensures.running })),
-          ap spare w.rows-is ∙ c.loop-i.invariant.1)
-      | in_default w ↦
-          (subst (λ m. Progress IsRestored (i + 1) es m.entries) (sym w.rows-is)
-          (progress-past IsRestored i es c.loop-i.rows.entries c.loop-i.invariant.0 w.in_default.ensures.value),
-          ap spare w.rows-is ∙ c.loop-i.invariant.1)
+      | in-Some w ↦ (
+        subst (λ m. Progress IsRestored (i + 1) es m.entries) (sym w.rows-is)
+            (progress-more IsRestored i es c.loop-i.rows.entries w.in-Some.place.now w.restore_in.new.place c.loop-i.invariant.0 w.in-Some.ensures.value
+            (record { row = w.restore_in.ensures.bare; kept = w.restore_in.ensures.kept; running = w.restore_in.ensures.running })),
+        ap spare w.rows-is ∙ c.loop-i.invariant.1,
+      )
+      | in_default w ↦ (
+        subst (λ m. Progress IsRestored (i + 1) es m.entries) (sym w.rows-is)
+            (progress-past IsRestored i es c.loop-i.rows.entries c.loop-i.invariant.0 w.in_default.ensures.value),
+        ap spare w.rows-is ∙ c.loop-i.invariant.1,
+      )
     ]
 
 pub returns-clause-places : goal.returns-clause-places

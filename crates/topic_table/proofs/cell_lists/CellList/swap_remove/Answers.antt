@@ -26,9 +26,11 @@ keys c =
     ∙ ap (take (length c.self.inside.cells.items - 1)) (swapped c)
 
 pub invariant_of-self : goal.invariant_of-self
-invariant_of-self c =
-    (keys c ∙ take-swap_last c.self.inside.cells.items c.args.place c.swap_remove.result (within c) ∙ sym c.swap_remove.ensures.items,
-    search rules, search rules)
+invariant_of-self c = (
+  keys c ∙ take-swap_last c.self.inside.cells.items c.args.place c.swap_remove.result (within c) ∙ sym c.swap_remove.ensures.items,
+  search rules,
+  search rules,
+)
 
 pub returns-clause-gone : goal.returns-clause-gone
 returns-clause-gone c =

@@ -9,9 +9,12 @@ topics : (c : goal.After-restore_all) → map connected (live c.restore_all.new.
 topics c = connected-each IsRestored (λ old new made. made.row) c.self.inside.rows.entries c.restore_all.new.rows.entries c.restore_all.ensures.places
 
 pub invariant_of-self : goal.invariant_of-self
-invariant_of-self c =
-    (rising-each IsRestored c.self.inside.rows.entries c.restore_all.new.rows.entries 0 c.self.inside.greatest c.restore_all.ensures.places c.self.invariant.0,
-    subst IsOnce (sym (topics c)) c.self.invariant.1, refl, c.self.invariant.3)
+invariant_of-self c = (
+  rising-each IsRestored c.self.inside.rows.entries c.restore_all.new.rows.entries 0 c.self.inside.greatest c.restore_all.ensures.places c.self.invariant.0,
+  subst IsOnce (sym (topics c)) c.self.invariant.1,
+  refl,
+  c.self.invariant.3,
+)
 
 pub returns-clause-topics : goal.returns-clause-topics
 returns-clause-topics c = record { topics = topics c ∙ ap (λ v. v.topics) c.self.view_is; greatest = ap (λ v. v.greatest) c.self.view_is }

@@ -26,10 +26,13 @@ topics c =
     ∙ connected-set c.args.id c.in-Some.place.now c.forget_in.new.place c.self.inside.rows.entries c.in-Some.ensures.value c.forget_in.ensures.bare
 
 pub invariant_of-self-2 : goal.invariant_of-self-2
-invariant_of-self-2 c =
-    (subst (λ l. IsRising 0 l c.self.inside.greatest) (sym (written c))
-    (rising-set c.args.id c.in-Some.place.now c.forget_in.new.place c.self.inside.rows.entries 0 c.self.inside.greatest c.self.invariant.0),
-    subst IsOnce (sym (topics c)) c.self.invariant.1, refl, c.self.invariant.3)
+invariant_of-self-2 c = (
+  subst (λ l. IsRising 0 l c.self.inside.greatest) (sym (written c))
+      (rising-set c.args.id c.in-Some.place.now c.forget_in.new.place c.self.inside.rows.entries 0 c.self.inside.greatest c.self.invariant.0),
+  subst IsOnce (sym (topics c)) c.self.invariant.1,
+  refl,
+  c.self.invariant.3,
+)
 
 pub returns-clause-topics : goal.returns-clause-topics
 returns-clause-topics c = record { topics = topics c ∙ ap (λ v. v.topics) c.self.view_is; greatest = ap (λ v. v.greatest) c.self.view_is }

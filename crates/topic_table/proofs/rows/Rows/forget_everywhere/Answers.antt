@@ -9,9 +9,12 @@ topics : (c : goal.After-forget_all) → map connected (live c.forget_all.new.ro
 topics c = connected-each (IsForgotten c.args.cell) (λ old new made. made.row) c.self.inside.rows.entries c.forget_all.new.rows.entries c.forget_all.ensures.places
 
 pub invariant_of-self : goal.invariant_of-self
-invariant_of-self c =
-    (rising-each (IsForgotten c.args.cell) c.self.inside.rows.entries c.forget_all.new.rows.entries 0 c.self.inside.greatest c.forget_all.ensures.places c.self.invariant.0,
-    subst IsOnce (sym (topics c)) c.self.invariant.1, refl, c.self.invariant.3)
+invariant_of-self c = (
+  rising-each (IsForgotten c.args.cell) c.self.inside.rows.entries c.forget_all.new.rows.entries 0 c.self.inside.greatest c.forget_all.ensures.places c.self.invariant.0,
+  subst IsOnce (sym (topics c)) c.self.invariant.1,
+  refl,
+  c.self.invariant.3,
+)
 
 pub returns-clause-topics : goal.returns-clause-topics
 returns-clause-topics c = record { topics = topics c ∙ ap (λ v. v.topics) c.self.view_is; greatest = ap (λ v. v.greatest) c.self.view_is }

@@ -11,15 +11,18 @@ pub invariant_of-self : goal.invariant_of-self
 invariant_of-self c =
     let es = c.self.inside.rows.entries in
     let is : c.retain.new.self.entries ≡ filter (λ (e : ℕ × Option Row). is_some e.1) es
-        = filter-RetainsPairs _ (λ (e : ℕ × Option Row). is_some e.1) _ (λ k v b w g call. search rules) _ _ c.retain.ensures.filtered in
-    (subst (λ l. IsRising 0 l c.self.inside.greatest) (sym is) (rising-live es 0 0 c.self.inside.greatest (omega arith) c.self.invariant.0),
-    subst (λ l. IsOnce (map connected l)) (sym (ap live is ∙ live-live es)) c.self.invariant.1, refl, c.self.invariant.3)
+    = filter-RetainsPairs _ (λ (e : ℕ × Option Row). is_some e.1) _ (λ k v b w g call. search rules) _ _ c.retain.ensures.filtered in (
+      subst (λ l. IsRising 0 l c.self.inside.greatest) (sym is) (rising-live es 0 0 c.self.inside.greatest (omega arith) c.self.invariant.0),
+      subst (λ l. IsOnce (map connected l)) (sym (ap live is ∙ live-live es)) c.self.invariant.1,
+      refl,
+      c.self.invariant.3,
+    )
 
 pub returns : goal.returns
 returns c =
     let es = c.self.inside.rows.entries in
     let is : c.retain.new.self.entries ≡ filter (λ (e : ℕ × Option Row). is_some e.1) es
-        = filter-RetainsPairs _ (λ (e : ℕ × Option Row). is_some e.1) _ (λ k v b w g call. search rules) _ _ c.retain.ensures.filtered in
+    = filter-RetainsPairs _ (λ (e : ℕ × Option Row). is_some e.1) _ (λ k v b w g call. search rules) _ _ c.retain.ensures.filtered in
     let same : live c.retain.new.self.entries ≡ live es = ap live is ∙ live-live es in
     let readings = ap (map readings_in) same in
     record {

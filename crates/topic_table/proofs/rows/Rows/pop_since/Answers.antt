@@ -20,12 +20,13 @@ take_out-requires c = topic-sought (is_since_place c.args.round) refl _ c.in-Som
 
 pub invariant_of-self : goal.invariant_of-self
 invariant_of-self c =
-    let es = c.self.inside.rows.entries in
-    (rising-taken c.self.inside.rows.entries c.take_out.new.rows.entries c.self.inside.greatest c.in-Some.place c.self.invariant.0 c.take_out.result.0 c.take_out.result.1 c.take_out.ensures.row c.take_out.ensures.left,
-    subst IsOnce (sym (connected-taken c.self.inside.rows.entries c.take_out.new.rows.entries c.self.inside.greatest c.in-Some.place c.self.invariant.0 c.take_out.result.0 c.take_out.result.1 c.take_out.ensures.row c.take_out.ensures.left)) (once-without (map connected (live es)) c.take_out.result.1 c.self.invariant.1),
-    ap (λ l. list_any (λ (e : ℕ × Option Row). is_since_place c.args.round e.1) (take c.in-Some.place l)) c.take_out.ensures.left
-    ∙ ap (list_any (λ (e : ℕ × Option Row). is_since_place c.args.round e.1)) (take-set_value_at es c.in-Some.place None) ∙ c.in-Some.ensures.first,
-    c.self.invariant.3)
+    let es = c.self.inside.rows.entries in (
+      rising-taken c.self.inside.rows.entries c.take_out.new.rows.entries c.self.inside.greatest c.in-Some.place c.self.invariant.0 c.take_out.result.0 c.take_out.result.1 c.take_out.ensures.row c.take_out.ensures.left,
+      subst IsOnce (sym (connected-taken c.self.inside.rows.entries c.take_out.new.rows.entries c.self.inside.greatest c.in-Some.place c.self.invariant.0 c.take_out.result.0 c.take_out.result.1 c.take_out.ensures.row c.take_out.ensures.left)) (once-without (map connected (live es)) c.take_out.result.1 c.self.invariant.1),
+      ap (λ l. list_any (λ (e : ℕ × Option Row). is_since_place c.args.round e.1) (take c.in-Some.place l)) c.take_out.ensures.left
+          ∙ ap (list_any (λ (e : ℕ × Option Row). is_since_place c.args.round e.1)) (take-set_value_at es c.in-Some.place None) ∙ c.in-Some.ensures.first,
+      c.self.invariant.3,
+    )
 
 pub returns-clause-first : goal.returns-clause-first
 returns-clause-first c =

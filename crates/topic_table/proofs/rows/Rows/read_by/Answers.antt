@@ -12,8 +12,8 @@ pub unreachable-requires : goal.unreachable-requires
 unreachable-requires c =
     let none = row-absent c.self.inside.rows.entries c.args.id (sym c.in_default.ensures.value) in
     let some : is_some (row_at c.self.inside.rows.entries c.args.id) ≡ true
-        = sym (some-topic c.self.inside.rows.entries c.self.inside.greatest c.self.invariant.0 c.args.id)
-          ∙ ap (λ v. is_some (topic_at v.topics c.args.id)) c.self.view_is ∙ c.requires in
+    = sym (some-topic c.self.inside.rows.entries c.self.inside.greatest c.self.invariant.0 c.args.id)
+    ∙ ap (λ v. is_some (topic_at v.topics c.args.id)) c.self.view_is ∙ c.requires in
     true≢false (sym some ∙ ap is_some none)
 
 pub read_in-requires : goal.read_in-requires
@@ -32,10 +32,13 @@ topics c =
     ∙ connected-set c.args.id c.in-Some.place.now c.read_in.new.place c.self.inside.rows.entries c.in-Some.ensures.value c.read_in.ensures.bare
 
 pub invariant_of-self : goal.invariant_of-self
-invariant_of-self c =
-    (subst (λ l. IsRising 0 l c.self.inside.greatest) (sym (written c))
-    (rising-set c.args.id c.in-Some.place.now c.read_in.new.place c.self.inside.rows.entries 0 c.self.inside.greatest c.self.invariant.0),
-    subst IsOnce (sym (topics c)) c.self.invariant.1, refl, c.self.invariant.3)
+invariant_of-self c = (
+  subst (λ l. IsRising 0 l c.self.inside.greatest) (sym (written c))
+      (rising-set c.args.id c.in-Some.place.now c.read_in.new.place c.self.inside.rows.entries 0 c.self.inside.greatest c.self.invariant.0),
+  subst IsOnce (sym (topics c)) c.self.invariant.1,
+  refl,
+  c.self.invariant.3,
+)
 
 pub returns-clause-topics : goal.returns-clause-topics
 returns-clause-topics c = record { topics = topics c ∙ ap (λ v. v.topics) c.self.view_is; greatest = ap (λ v. v.greatest) c.self.view_is }

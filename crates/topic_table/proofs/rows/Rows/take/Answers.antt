@@ -32,10 +32,13 @@ topics c =
     ∙ connected-take c.self.inside.rows.entries 0 c.self.inside.greatest c.self.invariant.0 c.args.id c.in-Some.place.now c.args.value c.in-Some.ensures.value
 
 pub invariant_of-self-2 : goal.invariant_of-self-2
-invariant_of-self-2 c =
-    (subst (λ l. IsRising 0 l c.self.inside.greatest) (sym (written c))
-    (rising-set c.args.id c.in-Some.place.now (with_value c.in-Some.place.now c.args.value) c.self.inside.rows.entries 0 c.self.inside.greatest c.self.invariant.0),
-    subst IsOnce (sym (topics c)) (once-valued (map connected (live c.self.inside.rows.entries)) c.args.id c.args.value c.self.invariant.1), refl, c.self.invariant.3)
+invariant_of-self-2 c = (
+  subst (λ l. IsRising 0 l c.self.inside.greatest) (sym (written c))
+      (rising-set c.args.id c.in-Some.place.now (with_value c.in-Some.place.now c.args.value) c.self.inside.rows.entries 0 c.self.inside.greatest c.self.invariant.0),
+  subst IsOnce (sym (topics c)) (once-valued (map connected (live c.self.inside.rows.entries)) c.args.id c.args.value c.self.invariant.1),
+  refl,
+  c.self.invariant.3,
+)
 
 pub returns-clause-changed : goal.returns-clause-changed
 returns-clause-changed c =

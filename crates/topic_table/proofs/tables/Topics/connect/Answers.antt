@@ -21,11 +21,12 @@ pub invariant_of-self-then-self : goal.invariant_of-self-then-self
 invariant_of-self-then-self c =
     let ts = c.self.inside.rows.topics in
     let t : ConnectedTopic = record { id = c.self.inside.rows.greatest + 1; topic = c.args.topic; value = c.args.value; round = c.args.round } in
-    let absent = ap (λ v. id_of v.topics c.args.topic) c.self.view_is ∙ c.requires in
-    (λ added q.
-    of_copy (λ made. lookup (same_topic q) c.add_copy-self-inside.new.ids ≡ cond (same_topic made q) (Some c.in_ok-id.id) (lookup (same_topic q) c.self.inside.ids)) c.args.topic c.copy-copy.result c.copy-copy.ensures (at_topic (λ made r. lookup (same_topic r) c.add_copy-self-inside.new.ids ≡ cond (same_topic made r) (Some c.in_ok-id.id) (lookup (same_topic r) c.self.inside.ids)) c.copy-copy.result q (c.add_copy-self-inside.ensures added))
-    ∙ ap (cond (same_topic c.args.topic q) (Some c.in_ok-id.id)) (c.self.invariant.0 c.if-self.true q)
-    ∙ ap (λ id. cond (same_topic c.args.topic q) (Some id) (id_of ts q)) c.in_ok-id.ensures.id
-    ∙ sym (ap (λ l. id_of l q) c.in_ok-id.ensures.topics ∙ id_of-push ts t absent q),
-    λ linked id cell reads. c.self.invariant.1 linked id cell
-    ((λ i. sym (c.in_ok-id.ensures.readers id cell) i || sym (c.in_ok-id.ensures.running id cell) i) ∙ reads))
+    let absent = ap (λ v. id_of v.topics c.args.topic) c.self.view_is ∙ c.requires in (
+      λ added q.
+          of_copy (λ made. lookup (same_topic q) c.add_copy-self-inside.new.ids ≡ cond (same_topic made q) (Some c.in_ok-id.id) (lookup (same_topic q) c.self.inside.ids)) c.args.topic c.copy-copy.result c.copy-copy.ensures (at_topic (λ made r. lookup (same_topic r) c.add_copy-self-inside.new.ids ≡ cond (same_topic made r) (Some c.in_ok-id.id) (lookup (same_topic r) c.self.inside.ids)) c.copy-copy.result q (c.add_copy-self-inside.ensures added))
+          ∙ ap (cond (same_topic c.args.topic q) (Some c.in_ok-id.id)) (c.self.invariant.0 c.if-self.true q)
+          ∙ ap (λ id. cond (same_topic c.args.topic q) (Some id) (id_of ts q)) c.in_ok-id.ensures.id
+          ∙ sym (ap (λ l. id_of l q) c.in_ok-id.ensures.topics ∙ id_of-push ts t absent q),
+      λ linked id cell reads. c.self.invariant.1 linked id cell
+          ((λ i. sym (c.in_ok-id.ensures.readers id cell) i || sym (c.in_ok-id.ensures.running id cell) i) ∙ reads),
+    )

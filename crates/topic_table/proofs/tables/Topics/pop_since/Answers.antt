@@ -13,11 +13,12 @@ stayed true x y h = absurd (no h)
 stayed false x y h = h
 
 pub invariant_of-self-2 : goal.invariant_of-self-2
-invariant_of-self-2 c =
-    (λ indexed q.
-    c.remove.ensures.out q
-    ∙ ap (cond (same_topic c.in_ok-topic.topic q) None) (c.self.invariant.0 indexed q)
-    ∙ sym (c.in_ok-topic.ensures.ids q),
-    λ linked id cell reads. c.self.invariant.1 linked id cell
-    (stayed (nat_eq c.in_ok-topic.id id) (has_reader c.self.inside.rows id cell) (has_read c.self.inside.rows id cell)
-    ((λ i. sym (c.in_ok-topic.ensures.out.readers id cell) i || sym (c.in_ok-topic.ensures.out.running id cell) i) ∙ reads)))
+invariant_of-self-2 c = (
+  λ indexed q.
+      c.remove.ensures.out q
+      ∙ ap (cond (same_topic c.in_ok-topic.topic q) None) (c.self.invariant.0 indexed q)
+      ∙ sym (c.in_ok-topic.ensures.ids q),
+  λ linked id cell reads. c.self.invariant.1 linked id cell
+      (stayed (nat_eq c.in_ok-topic.id id) (has_reader c.self.inside.rows id cell) (has_read c.self.inside.rows id cell)
+      ((λ i. sym (c.in_ok-topic.ensures.out.readers id cell) i || sym (c.in_ok-topic.ensures.out.running id cell) i) ∙ reads)),
+)
