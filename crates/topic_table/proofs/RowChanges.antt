@@ -1,10 +1,10 @@
 -- What holds of each table, and what a new row, an emptied place and a cleaning leave.
 use Rattle.std.proofs.Common.{◌≡◌, ℕ, zero, suc, ◌+◌, ◌<◌, ◌≤◌, Bool, true, false, cond, not, ◌&&◌, ◌||◌, List, [], ◌∷◌, ◌++◌, Option, None, Some, is_some, map, length, take, refl, ap, sym, subst, ◌∙◌, true≢false, arith}
-use Rattle.std.specs.Prelude.{nat_eq, find, filter, slice_get, All, AllPairs}
+use Rattle.std.specs.Prelude.{nat_eq, find, filter, slice_get, AllPairs}
 use Rattle.std.specs.List.{AllByRecursion, list_any}
 use Rattle.std.specs.Map.{lookup, values_of}
 use Rattle.std.specs.Option.{option_map, option_map_or}
-use Rattle.std.proofs.lemmas.Bool.{eq-eqb, eqb-false, eqb-true}
+use Rattle.std.proofs.lemmas.Bool.{eq-eqb, eqb-true}
 use Rattle.std.proofs.lemmas.List.{append_assoc, map-append}
 use Rattle.std.proofs.lemmas.List.Elements.{All-from_recursion}
 use Rattle.std.proofs.lemmas.List.Kept.{AllPairs-cons}
@@ -17,8 +17,8 @@ use Rattle.cell_values.specs.declared.values.Value.{Value}
 use Rattle.cell_values.specs.Topic.{same_topic}
 use Rattle.cell_values.proofs.PublicLaws.{same_topics}
 use Rattle.topic_table.specs.declared.places.Row.{Row}
-use Rattle.topic_table.specs.Rows.{EachPlace, IsOnce, IsRising, connected, is_since_place, is_topic_place, is_unread_place, kept_in, live, live_entry, readings_in, row_at, running_in, table_of, topic_in}
-use Rattle.topic_table.specs.Table.{ConnectedTopic, IsTable, Readings, TableState, TakesOut, has_read, has_reader, id_of, is_no_cell, leaving, readers_of, running_of, topic_at, topics_with_value, topics_without}
+use Rattle.topic_table.specs.Rows.{EachPlace, IsOnce, IsRising, connected, is_since_place, is_topic_place, is_unread_place, kept_in, live, live_entry, row_at, running_in, table_of, topic_in}
+use Rattle.topic_table.specs.Table.{ConnectedTopic, IsTable, Readings, TakesOut, has_read, has_reader, id_of, is_no_cell, leaving, readers_of, topic_at, topics_with_value, topics_without}
 use Rattle.topic_table.specs.TopicKey.{same_topic_is}
 use Rattle.topic_table.proofs.RowLaws.{connected_at, place_of, readers-at, running-at, topic-at}
 

@@ -1,6 +1,6 @@
 -- The rows of the table: what stands under an id, and what a write, an append, an emptied place and a cleaning leave.
-use Rattle.std.proofs.Common.{◌≡◌, ℕ, zero, suc, ◌+◌, ◌-◌, ◌<◌, ◌≤◌, Bool, true, false, cond, not, ◌&&◌, ◌||◌, List, [], ◌∷◌, ◌++◌, Option, None, Some, is_some, map, length, take, get_or, refl, ap, sym, subst, ◌∙◌, true≢false, arith}
-use Rattle.std.specs.Prelude.{IsSome, OnErr, OnOk, Result, Ok, Err, nat_eq, find, filter}
+use Rattle.std.proofs.Common.{◌≡◌, ℕ, ◌+◌, ◌<◌, ◌≤◌, Bool, true, false, cond, not, ◌&&◌, ◌||◌, List, [], ◌∷◌, ◌++◌, Option, None, Some, is_some, map, length, take, get_or, refl, ap, sym, subst, ◌∙◌, true≢false, arith}
+use Rattle.std.specs.Prelude.{IsSome, OnErr, OnOk, Result, Ok, Err, nat_eq}
 use Rattle.std.specs.Cmp.{nat_eq_equiv}
 use Rattle.std.specs.List.{list_any}
 use Rattle.std.specs.Map.{lookup, set_value}
@@ -18,8 +18,8 @@ use Rattle.cell_values.specs.declared.values.Value.{Value}
 use Rattle.cell_values.specs.SameValue.{same_value}
 use Rattle.cell_values.specs.Topic.{same_topic}
 use Rattle.topic_table.specs.declared.places.Row.{Row}
-use Rattle.topic_table.specs.Rows.{EachPlace, HasReaders, IsOnce, IsRising, bare, connected, is_other_in, kept_in, live, live_entry, readings_in, row_at, running_in, table_of, with_value}
-use Rattle.topic_table.specs.Table.{ConnectedTopic, Readings, has_other_value, has_read, has_reader, readers_of, running_of, topic_at, topics_with_value, topics_without}
+use Rattle.topic_table.specs.Rows.{EachPlace, IsOnce, IsRising, bare, connected, is_other_in, kept_in, live, live_entry, readings_in, row_at, running_in, table_of, with_value}
+use Rattle.topic_table.specs.Table.{ConnectedTopic, Readings, has_other_value, has_read, has_reader, readers_of, running_of, topic_at, topics_with_value}
 
 -- a place, where there is one
 abbrev pub place_of : Option (Option Row) → Option Row

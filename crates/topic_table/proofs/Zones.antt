@@ -1,12 +1,10 @@
 -- Lists whose items change places, cut in front and behind.
-use Rattle.std.proofs.Common.{◌≡◌, ◌≢◌, ℕ, zero, suc, ◌+◌, ◌-◌, ◌<◌, ◌≤◌, Bool, true, false, cond, not, ◌&&◌, ◌||◌, List, [], ◌∷◌, ◌++◌, Option, None, Some, length, take, drop, get_or, set, refl, ap, sym, subst, ◌∙◌, true≢false, arith}
-use Rattle.std.specs.List.{AllByRecursion, IsDistinct, list_any, position, swap, swap_remove}
+use Rattle.std.proofs.Common.{◌≡◌, ℕ, zero, suc, ◌+◌, ◌-◌, ◌<◌, ◌≤◌, Bool, true, false, not, ◌&&◌, ◌||◌, List, [], ◌∷◌, ◌++◌, length, take, drop, get_or, set, refl, ap, sym, subst, ◌∙◌, true≢false, arith}
+use Rattle.std.specs.List.{AllByRecursion, IsDistinct, list_any, swap, swap_remove}
 use Rattle.std.specs.Cmp.{IsEquivalence}
-use Rattle.std.specs.List.Sorted.{IsPermutation}
 use Rattle.std.proofs.lemmas.List.{drop_all, take-append-drop, get_or-take, get_or-drop, take-set-le, drop-set-lt, drop-set-add, take-set, drop-set, drop-take, length-take, length-drop}
-use Rattle.std.proofs.lemmas.List.Edits.{swap_is, length-swap}
-use Rattle.std.proofs.lemmas.List.Folds.{list_any-append, list_any_at, list_any_none}
-use Rattle.std.proofs.lemmas.List.Quantifiers.{position-Some}
+use Rattle.std.proofs.lemmas.List.Edits.{swap_is}
+use Rattle.std.proofs.lemmas.List.Folds.{list_any-append, list_any_at}
 use Rattle.std.proofs.lemmas.List.Sorted.{IsPermutation-swap, IsPermutation-swap_remove, list_any-IsPermutation}
 use Rattle.std.proofs.lemmas.Map.Keys.{IsDistinct-head, IsDistinct-tail}
 

@@ -1,4 +1,4 @@
-use Rattle.std.proofs.Common.{◌≡◌, ◌+◌, ◌-◌, ◌<◌, ◌≤◌, length, drop, ap, ◌∙◌, arith}
+use Rattle.std.proofs.Common.{◌≡◌, ◌+◌, ◌-◌, ◌<◌, length, drop, ap, ◌∙◌, arith}
 use Rattle.cell_refs.specs.Cell.{is_among, same_cell}
 use Rattle.topic_table.proofs.Zones.{any-drop-swap_remove_first}
 use Rattle.topic_table.proofs.readers.drop_front.Goals as goal

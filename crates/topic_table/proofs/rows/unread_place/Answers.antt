@@ -1,12 +1,7 @@
-use Rattle.std.proofs.Common.{◌≡◌, ◌+◌, ℕ, false, List, Option, Some, None, length, map, sym, ap, ◌∙◌, refl, arith}
-use Rattle.std.specs.Prelude.{find}
-use Rattle.std.specs.Option.{option_map, option_map_or}
-use Rattle.cell_values.specs.declared.topics.Topic.{Topic}
-use Rattle.cell_values.specs.Topic.{same_topic}
+use Rattle.std.proofs.Common.{ℕ, Option, sym}
 use Rattle.topic_table.specs.declared.places.Row.{Row}
-use Rattle.topic_table.specs.Rows.{connected, is_unread_place, live, topic_in}
-use Rattle.topic_table.specs.Table.{ConnectedTopic}
-use Rattle.topic_table.proofs.RowChanges.{agrees-topic, any-more, any-past, any-whole, first-found, id-in, id-leaving, none-found}
+use Rattle.topic_table.specs.Rows.{is_unread_place}
+use Rattle.topic_table.proofs.RowChanges.{any-more, any-past}
 use Rattle.topic_table.proofs.rows.unread_place.Goals as goal
 use Rattle.topic_table.proofs.rows.unread_place.Goals.{in-Some+else-is_unread, in_default}
 

@@ -1,4 +1,4 @@
-use Rattle.std.proofs.Common.{◌≡◌, ◌<◌, ◌&&◌, ◌||◌, not, length, take, get_or, sym, ap, ◌∙◌}
+use Rattle.std.proofs.Common.{◌<◌, ◌&&◌, ◌||◌, not, length, take, get_or, sym, ap, ◌∙◌}
 use Rattle.std.specs.Prelude.{nat_eq}
 use Rattle.std.specs.Cmp.{nat_eq_equiv}
 use Rattle.std.specs.List.{list_any}

@@ -1,4 +1,4 @@
-use Rattle.std.proofs.Common.{◌≡◌, ◌+◌, ◌≤◌, ◌<◌, ◌&&◌, not, drop, take, length, sym, ap, subst, ◌∙◌, false, arith}
+use Rattle.std.proofs.Common.{◌≡◌, ◌+◌, ◌≤◌, ◌<◌, ◌&&◌, not, drop, take, sym, ap, subst, ◌∙◌, false, arith}
 use Rattle.std.specs.List.{IsDistinct}
 use Rattle.cell_refs.specs.Cell.{is_among, same_cell}
 use Rattle.topic_table.proofs.ReaderLaws.{forget_absent-running, forget_again-running, forget_kept-kept, forget_kept-running, forget-running}

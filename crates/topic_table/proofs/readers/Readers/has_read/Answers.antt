@@ -1,4 +1,4 @@
-use Rattle.std.proofs.Common.{◌≡◌, ◌∙◌, sym, ap}
+use Rattle.std.proofs.Common.{◌∙◌, sym, ap}
 use Rattle.cell_refs.specs.Cell.{is_among, same_cell}
 use Rattle.topic_table.proofs.ReaderLaws.{stands-drop}
 use Rattle.topic_table.proofs.Zones.{none-drop}

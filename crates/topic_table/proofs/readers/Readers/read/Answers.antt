@@ -1,4 +1,4 @@
-use Rattle.std.proofs.Common.{◌≡◌, ◌||◌, ◌≤◌, ◌<◌, ◌-◌, drop, take, length, sym, ap, ◌∙◌, arith}
+use Rattle.std.proofs.Common.{◌||◌, ◌≤◌, ◌-◌, drop, take, sym, ap, ◌∙◌, arith}
 use Rattle.cell_refs.specs.Cell.{is_among, same_cell}
 use Rattle.topic_table.proofs.ReaderLaws.{reread-again, reread-kept, reread-running}
 use Rattle.topic_table.proofs.readers.Readers.read.Goals as goal

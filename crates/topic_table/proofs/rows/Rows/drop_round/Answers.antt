@@ -1,8 +1,8 @@
-use Rattle.std.proofs.Common.{◌≡◌, ◌&&◌, not, map, sym, ap, subst, ◌∙◌, refl}
-use Rattle.cell_refs.specs.Cell.{is_among, same_cell}
-use Rattle.topic_table.specs.Rows.{IsRestored, IsOnce, connected, kept_in, live, running_in}
-use Rattle.topic_table.specs.Table.{has_read, has_reader}
-use Rattle.topic_table.proofs.RowLaws.{connected-each, read-each, reader-each, readers-at, rising-each, running-at}
+use Rattle.std.proofs.Common.{◌≡◌, map, sym, ap, subst, ◌∙◌, refl}
+use Rattle.cell_refs.specs.Cell.{is_among}
+use Rattle.topic_table.specs.Rows.{IsRestored, IsOnce, connected, kept_in, live}
+use Rattle.topic_table.specs.Table.{has_reader}
+use Rattle.topic_table.proofs.RowLaws.{connected-each, read-each, reader-each, readers-at, rising-each}
 use Rattle.topic_table.proofs.rows.Rows.drop_round.Goals as goal
 
 topics : (c : goal.After-restore_all) → map connected (live c.restore_all.new.rows.entries) ≡ map connected (live c.self.inside.rows.entries)

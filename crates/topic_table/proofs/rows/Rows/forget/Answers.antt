@@ -1,8 +1,7 @@
-use Rattle.std.proofs.Common.{◌≡◌, ℕ, List, Option, Some, ◌&&◌, not, map, sym, ap, subst, ◌∙◌, refl}
+use Rattle.std.proofs.Common.{◌≡◌, ◌&&◌, not, map, sym, ap, subst, ◌∙◌, refl}
 use Rattle.std.specs.Prelude.{nat_eq}
-use Rattle.std.specs.Map.{lookup, set_value}
+use Rattle.std.specs.Map.{set_value}
 use Rattle.cell_refs.specs.Cell.{same_cell}
-use Rattle.topic_table.specs.declared.places.Row.{Row}
 use Rattle.topic_table.specs.Rows.{IsOnce, IsRising, connected, live, table_of}
 use Rattle.topic_table.specs.Table.{has_read, has_reader}
 use Rattle.topic_table.proofs.RowLaws.{chosen-and, connected-set, forget-nothing, read-absent, read-made, reader-kept, rising-set}

@@ -1,9 +1,9 @@
-use Rattle.std.proofs.Common.{◌≡◌, ◌≤◌, ℕ, List, Option, [], is_some, map, sym, ap, subst, ◌∙◌, refl, arith, rules}
+use Rattle.std.proofs.Common.{◌≡◌, ℕ, Option, [], is_some, map, sym, ap, subst, ◌∙◌, refl, arith, rules}
 use Rattle.std.specs.Prelude.{filter}
 use Rattle.indexmap.proofs.CallerLemmas.{filter-RetainsPairs}
 use Rattle.topic_table.specs.declared.places.Row.{Row}
 use Rattle.topic_table.specs.Rows.{IsOnce, IsRising, connected, live, readings_in}
-use Rattle.topic_table.specs.Table.{KeepsTable, has_read, has_reader}
+use Rattle.topic_table.specs.Table.{has_read, has_reader}
 use Rattle.topic_table.proofs.RowChanges.{live-live, rising-live}
 use Rattle.topic_table.proofs.rows.Rows.give_back.Goals as goal
 

@@ -1,6 +1,6 @@
-use Rattle.std.proofs.Common.{◌≡◌, sym, ap, ◌∙◌}
+use Rattle.std.proofs.Common.{sym, ap, ◌∙◌}
 use Rattle.cell_refs.specs.Cell.{is_among}
-use Rattle.topic_table.specs.Rows.{row_at, running_in}
+use Rattle.topic_table.specs.Rows.{running_in}
 use Rattle.topic_table.specs.Table.{has_read}
 use Rattle.topic_table.proofs.RowLaws.{running-at}
 use Rattle.topic_table.proofs.rows.Rows.has_read.Goals as goal

@@ -1,4 +1,4 @@
-use Rattle.std.proofs.Common.{◌≡◌, ◌&&◌, not, sym, ap, ◌∙◌}
+use Rattle.std.proofs.Common.{◌&&◌, not, sym, ap, ◌∙◌}
 use Rattle.topic_table.specs.Rows.{kept_in, row_at, running_in}
 use Rattle.topic_table.specs.Table.{is_no_cell, readers_of, running_of}
 use Rattle.topic_table.proofs.RowLaws.{readers-at, running-at}

@@ -1,13 +1,12 @@
-use Rattle.std.proofs.Common.{◌≡◌, ℕ, List, Option, Some, None, cond, false, not, ◌&&◌, map, take, sym, ap, subst, ◌∙◌, refl}
+use Rattle.std.proofs.Common.{ℕ, Option, None, cond, not, ◌&&◌, map, take, sym, ap, subst, ◌∙◌, refl}
 use Rattle.std.specs.Prelude.{find, nat_eq}
 use Rattle.std.specs.List.{list_any}
 use Rattle.std.specs.Option.{option_map}
-use Rattle.cell_values.specs.declared.topics.Topic.{Topic}
 use Rattle.cell_values.specs.Topic.{same_topic}
 use Rattle.topic_table.specs.declared.places.Row.{Row}
-use Rattle.topic_table.specs.Rows.{IsOnce, connected, is_since_place, live, table_of}
-use Rattle.topic_table.specs.Table.{ConnectedTopic, TakesOut, first_since, first_unread, has_read, has_reader, id_of, is_no_cell, leaving, readers_of, topics_without}
-use Rattle.topic_table.proofs.RowChanges.{agrees-since, agrees-unread, apart-live, connected-taken, first-found, found-leaving, id_of-without, none-found, once-without, rising-taken, take-set_value_at, taken-out, topic-sought}
+use Rattle.topic_table.specs.Rows.{IsOnce, connected, is_since_place, live}
+use Rattle.topic_table.specs.Table.{ConnectedTopic, first_since, has_read, has_reader, id_of, leaving, topics_without}
+use Rattle.topic_table.proofs.RowChanges.{agrees-since, apart-live, connected-taken, first-found, found-leaving, id_of-without, none-found, once-without, rising-taken, take-set_value_at, taken-out, topic-sought}
 use Rattle.topic_table.proofs.rows.Rows.pop_since.Goals as goal
 
 pub returns-in_default-clause-first : goal.returns-in_default-clause-first

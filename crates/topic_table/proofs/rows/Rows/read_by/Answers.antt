@@ -1,8 +1,7 @@
-use Rattle.std.proofs.Common.{◌≡◌, ℕ, List, Option, Some, None, is_some, Bool, true, false, cond, ◌&&◌, ◌||◌, map, sym, ap, subst, ◌∙◌, refl, true≢false}
+use Rattle.std.proofs.Common.{◌≡◌, is_some, Bool, true, false, cond, ◌&&◌, ◌||◌, map, sym, ap, subst, ◌∙◌, refl, true≢false}
 use Rattle.std.specs.Prelude.{nat_eq}
-use Rattle.std.specs.Map.{lookup, set_value}
+use Rattle.std.specs.Map.{set_value}
 use Rattle.cell_refs.specs.Cell.{is_among, same_cell}
-use Rattle.topic_table.specs.declared.places.Row.{Row}
 use Rattle.topic_table.specs.Rows.{IsOnce, IsRising, connected, kept_in, live, row_at, running_in, table_of}
 use Rattle.topic_table.specs.Table.{has_read, has_reader, readers_of, running_of, topic_at}
 use Rattle.topic_table.proofs.RowLaws.{chosen-or, connected-set, err_gives, ok_gives, read-made, reader-kept, readers-at, rising-set, row-absent, row-is, running-at, some-topic}

@@ -1,8 +1,7 @@
-use Rattle.std.proofs.Common.{◌≡◌, List, [], sym, ap, subst, ◌∙◌, None}
+use Rattle.std.proofs.Common.{[], sym, ap, subst, ◌∙◌}
 use Rattle.std.specs.List.{IsDistinct}
-use Rattle.cell_refs.specs.declared.grid.Cell.{Cell}
 use Rattle.cell_refs.specs.Cell.{same_cell}
-use Rattle.topic_table.specs.Rows.{kept_in, row_at}
+use Rattle.topic_table.specs.Rows.{kept_in}
 use Rattle.topic_table.specs.Table.{readers_of}
 use Rattle.topic_table.proofs.RowLaws.{readers-at}
 use Rattle.topic_table.proofs.rows.Rows.readers.Goals as goal

@@ -1,8 +1,7 @@
-use Rattle.std.proofs.Common.{◌≡◌, ℕ, List, Option, Some, None, map, sym, ap, subst, ◌∙◌, refl}
+use Rattle.std.proofs.Common.{◌≡◌, map, sym, ap, subst, ◌∙◌, refl}
 use Rattle.std.specs.Prelude.{nat_eq}
-use Rattle.std.specs.Map.{lookup, set_value}
-use Rattle.topic_table.specs.declared.places.Row.{Row}
-use Rattle.topic_table.specs.Rows.{IsOnce, IsRising, connected, is_other_in, live, readings_in, table_of, with_value}
+use Rattle.std.specs.Map.{set_value}
+use Rattle.topic_table.specs.Rows.{IsOnce, IsRising, connected, is_other_in, live, readings_in, with_value}
 use Rattle.topic_table.specs.Table.{has_other_value, topics_with_value}
 use Rattle.topic_table.proofs.RowLaws.{connected-take, connected_at, none-valued, once-valued, other-value, readings-take, rising-set, row-absent, row-is, topic-at}
 use Rattle.topic_table.proofs.rows.Rows.take.Goals as goal

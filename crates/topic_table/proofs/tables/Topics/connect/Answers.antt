@@ -1,9 +1,9 @@
-use Rattle.std.proofs.Common.{◌≡◌, ◌+◌, ◌||◌, ℕ, List, Result, Ok, Err, Some, None, cond, true, sym, ap, subst, ◌∙◌}
+use Rattle.std.proofs.Common.{◌≡◌, ◌+◌, ◌||◌, Result, Ok, Err, Some, cond, sym, ap, subst, ◌∙◌}
 use Rattle.std.specs.Prelude.{IfOk, IsOkAnd}
 use Rattle.std.specs.Map.{lookup}
 use Rattle.cell_values.specs.declared.topics.Topic.{Topic}
 use Rattle.cell_values.specs.Topic.{same_topic}
-use Rattle.topic_table.specs.Table.{ConnectedTopic, has_read, has_reader, id_of}
+use Rattle.topic_table.specs.Table.{ConnectedTopic, id_of}
 use Rattle.topic_table.proofs.RowChanges.{id_of-push}
 use Rattle.topic_table.proofs.tables.Topics.connect.Goals as goal
 

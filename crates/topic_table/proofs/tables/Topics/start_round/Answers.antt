@@ -1,5 +1,4 @@
-use Rattle.std.proofs.Common.{◌≡◌, ◌<◌, ◌&&◌, not, length, take, sym, ap, ◌∙◌}
-use Rattle.cell_refs.specs.Cell.{is_among, same_cell}
+use Rattle.std.proofs.Common.{◌<◌, length, ◌∙◌}
 use Rattle.topic_table.specs.Table.{has_read}
 use Rattle.topic_table.proofs.RowLaws.{forget-step}
 use Rattle.topic_table.proofs.tables.Topics.start_round.Goals as goal

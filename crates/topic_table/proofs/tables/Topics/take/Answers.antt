@@ -1,4 +1,4 @@
-use Rattle.std.proofs.Common.{◌≡◌, ◌||◌, [], sym, ap, ◌∙◌}
+use Rattle.std.proofs.Common.{◌||◌, [], sym, ap, ◌∙◌}
 use Rattle.topic_table.specs.Table.{has_read, has_reader, id_of}
 use Rattle.topic_table.proofs.RowChanges.{id_of-valued}
 use Rattle.topic_table.proofs.tables.Topics.take.Goals as goal

@@ -1,4 +1,4 @@
-use Rattle.std.proofs.Common.{◌≡◌, ◌≤◌, ◌++◌, length, take}
+use Rattle.std.proofs.Common.{◌≡◌, ◌≤◌, length, take}
 use Rattle.std.specs.Hash as fed
 use Rattle.std.specs.List.{flat_map, fold}
 use Rattle.topic_table.proofs.topic_keys.TopicKeyHash.hash.Given as goal
