@@ -51,128 +51,220 @@ fn read(table: &mut Topics, id: u64, row: u32) -> Result<(), Fail> {
     Ok(())
 }
 
-/// Compares the rows of the kept readers of the topic of an id.
-fn assert_readers(rt: &impl Abort, table: &Topics, id: u64, rows: &[u32]) {
-    let readers = table.readers(id);
-    assert_eq!(rt; readers.len(), rows.len());
+/// Forgets the readings of the cells of these rows.
+fn start(table: &mut Topics, alloc: Global, rows: &[u32]) -> Result<(), Fail> {
+    let mut cells = Vec::new(alloc);
     for row in rows {
-        assert!(rt; readers.contains(&cell(*row)));
+        cells.push(cell(*row))?;
     }
+    table.start_round(&cells);
+    Ok(())
+}
+
+/// Whether the kept readers of the topic of an id are the cells of these rows.
+fn has_readers(table: &Topics, id: u64, rows: &[u32]) -> bool {
+    let readers = table.readers(id);
+    if readers.len() != rows.len() {
+        return false;
+    }
+    for row in rows {
+        if !readers.contains(&cell(*row)) {
+            return false;
+        }
+    }
+    true
+}
+
+/// Whether the value of the topic of an id is this number.
+fn has_value(table: &Topics, id: u64, number: i64) -> bool {
+    match table.value(id) {
+        Some(value) => *value == Value::Num(number),
+        None => false,
+    }
+}
+
+/// The id of a topic.
+fn find(table: &Topics, alloc: Global, text: &str) -> Result<Option<u64>, Fail> {
+    Ok(table.find(&topic(alloc, text)?))
+}
+
+/// The id of a topic that leaves.
+fn id_out(out: Option<(Topic, u64)>) -> Option<u64> {
+    match out {
+        Some((_topic, id)) => Some(id),
+        None => None,
+    }
+}
+
+/// What is done to a table, and what it answers.
+#[derive(Clone, Copy)]
+enum Step {
+    Reserve(u64),
+    Connect(&'static str, u64, u64),
+    Find(&'static str, Option<u64>),
+    Take(u64, i64, bool),
+    Value(u64, i64),
+    Read(u64, u32),
+    HasRead(u64, u32, bool),
+    Readers(u64, &'static [u32]),
+    Start(&'static [u32]),
+    Keep,
+    Restore,
+    PopUnread(Option<u64>),
+    PopSince(u64, Option<u64>),
+}
+
+/// Does a step: whether the answer is the one that is wanted.
+fn is_answered(table: &mut Topics, alloc: Global, step: &Step) -> Result<bool, Fail> {
+    let is_right = match step {
+        Step::Reserve(want) => table.reserve()? == *want,
+        Step::Connect(text, round, want) => connect(table, alloc, text, 5, *round)? == *want,
+        Step::Find(text, want) => find(table, alloc, text)? == *want,
+        Step::Take(id, number, want) => table.take(*id, Value::Num(*number)) == *want,
+        Step::Value(id, number) => has_value(table, *id, *number),
+        Step::HasRead(id, row, want) => table.has_read(*id, cell(*row)) == *want,
+        Step::Readers(id, rows) => has_readers(table, *id, rows),
+        Step::PopUnread(want) => id_out(table.pop_unread()) == *want,
+        Step::PopSince(round, want) => id_out(table.pop_since(*round)) == *want,
+        other => {
+            change(table, alloc, other)?;
+            true
+        }
+    };
+    Ok(is_right)
+}
+
+/// Does a step that answers nothing.
+fn change(table: &mut Topics, alloc: Global, step: &Step) -> Result<(), Fail> {
+    match step {
+        Step::Read(id, row) => read(table, *id, *row),
+        Step::Start(rows) => start(table, alloc, rows),
+        Step::Keep => {
+            table.keep_round();
+            Ok(())
+        }
+        Step::Restore => {
+            table.drop_round();
+            Ok(())
+        }
+        _ => Ok(()),
+    }
+}
+
+/// Does steps on a new table.
+fn take_steps(rt: &impl Abort, alloc: Global, steps: &[Step]) -> Result<(), Fail> {
+    let mut table = Topics::new(alloc);
+    for step in steps {
+        let is_right = is_answered(&mut table, alloc, step)?;
+        assert!(rt; is_right);
+    }
+    Ok(())
 }
 
 #[test]
 fn the_first_topic_is_connected_and_read(rt: HostRuntime) -> Result<(), Fail> {
-    let alloc = rt.alloc();
-    let mut table = Topics::new(alloc);
-    assert_eq!(rt; table.reserve()?, 1);
-    assert_eq!(rt; connect(&mut table, alloc, "a", 5, 1)?, 1);
-    read(&mut table, 1, 1)?;
-    assert!(rt; table.has_read(1, cell(1)));
-    assert_readers(&rt, &table, 1, &[]);
-    assert_eq!(rt; table.find(&topic(alloc, "a")?), Some(1));
-    assert_eq!(rt; table.find(&topic(alloc, "b")?), None);
-    Ok(())
+    let steps = [
+        Step::Reserve(1),
+        Step::Connect("a", 1, 1),
+        Step::Read(1, 1),
+        Step::HasRead(1, 1, true),
+        Step::Readers(1, &[]),
+        Step::Find("a", Some(1)),
+        Step::Find("b", None),
+    ];
+    take_steps(&rt, rt.alloc(), &steps)
 }
 
 #[test]
 fn a_topic_takes_values(rt: HostRuntime) -> Result<(), Fail> {
-    let alloc = rt.alloc();
-    let mut table = Topics::new(alloc);
-    assert_eq!(rt; connect(&mut table, alloc, "a", 5, 1)?, 1);
-    assert!(rt; !table.take(1, Value::Num(5)));
-    assert!(rt; table.take(1, Value::Num(6)));
-    assert!(rt; !table.take(2, Value::Num(6)));
-    let Some(value) = table.value(1) else {
-        return Err(Fail::from("a topic without a value"));
-    };
-    assert!(rt; *value == Value::Num(6));
-    Ok(())
+    let steps = [
+        Step::Connect("a", 1, 1),
+        Step::Take(1, 5, false),
+        Step::Take(1, 6, true),
+        Step::Take(2, 6, false),
+        Step::Value(1, 6),
+    ];
+    take_steps(&rt, rt.alloc(), &steps)
 }
 
 #[test]
 fn readers_move_between_topics(rt: HostRuntime) -> Result<(), Fail> {
-    let alloc = rt.alloc();
-    let mut table = Topics::new(alloc);
-    assert_eq!(rt; connect(&mut table, alloc, "a", 5, 1)?, 1);
-    assert_eq!(rt; connect(&mut table, alloc, "b", 5, 1)?, 2);
-    read(&mut table, 1, 1)?;
-    read(&mut table, 2, 2)?;
-    table.keep_round();
-    assert_readers(&rt, &table, 1, &[1]);
-    assert_readers(&rt, &table, 2, &[2]);
-
-    table.start_round(&[cell(1), cell(9)]);
-    assert!(rt; !table.has_read(1, cell(1)));
-    assert!(rt; table.has_read(2, cell(2)));
-    assert_readers(&rt, &table, 1, &[1]);
-    read(&mut table, 2, 1)?;
-    table.drop_round();
-    assert!(rt; table.has_read(1, cell(1)));
-    assert!(rt; !table.has_read(2, cell(1)));
-
-    table.start_round(&[cell(1)]);
-    read(&mut table, 2, 1)?;
-    table.keep_round();
-    assert_readers(&rt, &table, 1, &[]);
-    assert_readers(&rt, &table, 2, &[1, 2]);
-
-    let Some((_, id)) = table.pop_unread() else {
-        return Err(Fail::from("no unread topic"));
-    };
-    assert_eq!(rt; id, 1);
-    assert!(rt; table.pop_unread().is_none());
-    assert_eq!(rt; table.find(&topic(alloc, "a")?), None);
-    assert_eq!(rt; connect(&mut table, alloc, "a", 5, 2)?, 3);
-    Ok(())
+    let steps = [
+        Step::Connect("a", 1, 1),
+        Step::Connect("b", 1, 2),
+        Step::Read(1, 1),
+        Step::Read(2, 2),
+        Step::Keep,
+        Step::Readers(1, &[1]),
+        Step::Readers(2, &[2]),
+        Step::Start(&[1, 9]),
+        Step::HasRead(1, 1, false),
+        Step::HasRead(2, 2, true),
+        Step::Readers(1, &[1]),
+        Step::Read(2, 1),
+        Step::Restore,
+        Step::HasRead(1, 1, true),
+        Step::HasRead(2, 1, false),
+        Step::Start(&[1]),
+        Step::Read(2, 1),
+        Step::Keep,
+        Step::Readers(1, &[]),
+        Step::Readers(2, &[1, 2]),
+        Step::PopUnread(Some(1)),
+        Step::PopUnread(None),
+        Step::Find("a", None),
+        Step::Connect("a", 2, 3),
+    ];
+    take_steps(&rt, rt.alloc(), &steps)
 }
 
 #[test]
 fn topics_of_a_round_leave_in_order(rt: HostRuntime) -> Result<(), Fail> {
-    let alloc = rt.alloc();
-    let mut table = Topics::new(alloc);
-    assert_eq!(rt; connect(&mut table, alloc, "a", 5, 1)?, 1);
-    assert_eq!(rt; connect(&mut table, alloc, "b", 5, 2)?, 2);
-    assert_eq!(rt; connect(&mut table, alloc, "c", 5, 1)?, 3);
-    assert_eq!(rt; connect(&mut table, alloc, "d", 5, 2)?, 4);
-    for want in [2, 4] {
-        let Some((_, id)) = table.pop_since(2) else {
-            return Err(Fail::from("no topic of the round"));
-        };
-        assert_eq!(rt; id, want);
+    let steps = [
+        Step::Connect("a", 1, 1),
+        Step::Connect("b", 2, 2),
+        Step::Connect("c", 1, 3),
+        Step::Connect("d", 2, 4),
+        Step::PopSince(2, Some(2)),
+        Step::PopSince(2, Some(4)),
+        Step::PopSince(2, None),
+        Step::Find("c", Some(3)),
+        Step::Find("d", None),
+    ];
+    take_steps(&rt, rt.alloc(), &steps)
+}
+
+/// Connects ten thousand topics, of which one cell reads every other one.
+fn connect_many(table: &mut Topics, alloc: Global) -> Result<(), Fail> {
+    for n in 0..10_000u32 {
+        let text = format!(in alloc; "{n}")?;
+        let id = connect(table, alloc, text.as_str(), 5, 1)?;
+        if n % 2 == 1 {
+            read(table, id, 1)?;
+        }
     }
-    assert!(rt; table.pop_since(2).is_none());
-    assert_eq!(rt; table.find(&topic(alloc, "c")?), Some(3));
-    assert_eq!(rt; table.find(&topic(alloc, "d")?), None);
     Ok(())
+}
+
+/// How many unread topics leave, at most so many.
+fn pop_many(table: &mut Topics) -> u32 {
+    for n in 0..10_000 {
+        if id_out(table.pop_unread()).is_none() {
+            return n;
+        }
+    }
+    10_000
 }
 
 #[test]
 fn every_other_topic_of_many_leaves(rt: HostRuntime) -> Result<(), Fail> {
     let alloc = rt.alloc();
     let mut table = Topics::new(alloc);
-    for n in 0..10_000u32 {
-        let text = format!(in alloc; "{n}")?;
-        let id = connect(&mut table, alloc, text.as_str(), 5, 1)?;
-        if n % 2 == 1 {
-            read(&mut table, id, 1)?;
-        }
-    }
+    connect_many(&mut table, alloc)?;
     table.keep_round();
-    for k in 0..5_000u64 {
-        let Some((_, id)) = table.pop_unread() else {
-            return Err(Fail::from("no unread topic"));
-        };
-        assert_eq!(rt; id, 2 * k + 1);
-    }
-    assert!(rt; table.pop_unread().is_none());
-    table.start_round(&[cell(1)]);
+    assert_eq!(rt; pop_many(&mut table), 5_000);
+    start(&mut table, alloc, &[1])?;
     table.keep_round();
-    for k in 0..5_000u64 {
-        let Some((_, id)) = table.pop_unread() else {
-            return Err(Fail::from("no unread topic"));
-        };
-        assert_eq!(rt; id, 2 * k + 2);
-    }
-    assert!(rt; table.pop_unread().is_none());
+    assert_eq!(rt; pop_many(&mut table), 5_000);
     Ok(())
 }
