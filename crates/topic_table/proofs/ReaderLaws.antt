@@ -1,7 +1,7 @@
 -- The readers of a topic in one list: those forgotten in the running round, those that are kept and have read, and those
 -- that have read and aren't kept.
-use Rattle.std.proofs.Common.{◌≡◌, ℕ, zero, suc, ◌+◌, ◌-◌, ◌<◌, ◌≤◌, Bool, true, false, not, ◌&&◌, ◌||◌, List, [], ◌∷◌, Some, length, take, drop, get_or, refl, ap, sym, subst, ◌∙◌, arith}
-use Rattle.std.specs.Prelude.{nat_le}
+use Rattle.std.proofs.Common.{◌≡◌, ℕ, zero, suc, ◌+◌, ◌-◌, ◌<◌, ◌≤◌, Bool, true, false, not, ◌&&◌, ◌||◌, List, [], ◌∷◌, Some, length, take, drop, get_or, refl, ap, sym, subst, ◌∙◌, true≢false, arith}
+use Rattle.std.specs.Prelude.{nat_le, nat_lt}
 use Rattle.std.specs.List.{AllByRecursion, IsDistinct, position, swap, swap_remove}
 use Rattle.std.proofs.lemmas.Bool.Decides.{nat_tests}
 use Rattle.std.proofs.lemmas.List.Quantifiers.{position-Some}
@@ -9,7 +9,7 @@ use Rattle.std.proofs.lemmas.Map.Keys.{IsDistinct-head, IsDistinct-tail}
 use Rattle.cell_refs.specs.declared.grid.Cell.{Cell}
 use Rattle.cell_refs.specs.Cell.{is_among, same_cell}
 use Rattle.cell_refs.proofs.PublicLaws.{same_cell_is}
-use Rattle.topic_table.proofs.Zones.{any-drop-swap, any-drop-swap_remove, any-drop_at, any-take-swap, apart-drop, drop-swap_at, drop-swap_first, in_either, none-drop, none_apart, other_of, without_other}
+use Rattle.topic_table.proofs.Zones.{any-drop-swap, any-drop-swap_remove, any-drop_at, any-take-swap, any-take_at, apart-drop, drop-swap_at, drop-swap_first, in_either, none-drop, none-take, none_apart, other_of, without_other}
 
 module _ {K : Type 0} (eq : K → K → Bool) where
   all-take : (P : K → Type 0) (n : ℕ) (ks : List K) → AllByRecursion P ks → AllByRecursion P (take n ks)
@@ -56,6 +56,15 @@ module _ (xs : List Cell) (cell : Cell) (p : ℕ) (at : Some p ≡ position (sam
       by : (b : Bool) → nat_le f p ≡ b → b ≡ is_among (drop f xs) cell
       by true e = sym (stands_behind f (grind (arith, nat_tests, e)))
       by false e = sym (stands_before once f (grind (arith, nat_tests, e)))
+
+  pub stands-take : (k : ℕ) → nat_lt p k ≡ is_among (take k xs) cell
+  stands-take k = by (nat_lt p k) refl
+    where
+      by : (b : Bool) → nat_lt p k ≡ b → b ≡ is_among (take k xs) cell
+      by true e = sym (any-take_at (same_cell cell) k xs p cell (grind (arith, nat_tests, e)) there (passes_at cell))
+      by false e =
+          let behind : k ≤ p = grind (arith, nat_tests, e) in
+          sym (none-take (same_cell cell) k xs cell (λ j below. (position-Some (same_cell cell) xs p cell (sym at)).2 j (omega (arith, behind, below))))
 
   -- a forgotten cell that reads again goes to those that have read
   pub reread-running : (f k : ℕ) → p < f → f ≤ k → k ≤ length xs → (q : Cell) → is_among (drop (f - 1) (swap xs p (f - 1))) q ≡ (same_cell q cell || is_among (drop f xs) q)
@@ -111,3 +120,14 @@ pub forget_absent-running : (xs : List Cell) (cell : Cell) → is_among xs cell 
 forget_absent-running xs cell absent f q =
     without_other (same_cell q cell) (is_among (drop f xs) q)
     (λ same. ap (is_among (drop f xs)) (same_cell_is q cell same) ∙ none-drop (same_cell cell) f xs absent)
+
+-- a cell that isn't there isn't in front
+pub absent-take : (xs : List Cell) (cell : Cell) → is_among xs cell ≡ false → (k : ℕ) → is_among (take k xs) cell ≡ false
+absent-take [] cell absent zero = refl
+absent-take [] cell absent (suc k) = refl
+absent-take (x ∷ xs) cell absent zero = refl
+absent-take (x ∷ xs) cell absent (suc k) = by (same_cell cell x) absent (λ rest. absent-take xs cell rest k)
+  where
+    by : (b : Bool) → (b || is_among xs cell) ≡ false → (is_among xs cell ≡ false → is_among (take k xs) cell ≡ false) → (b || is_among (take k xs) cell) ≡ false
+    by true h rest = absurd (true≢false h)
+    by false h rest = rest h

@@ -261,3 +261,19 @@ module _ {K : Type 0} (eq : K → K → Bool) where
       none-drop (eq q) n xs (none_apart eq q xs (subst (λ k. AllByRecursion (λ y. eq k y ≡ false) xs) (sym (same x at)) (IsDistinct-head eq x xs distinct)))
   apart-drop (x ∷ xs) q (suc i) (suc n) d distinct same within at before =
       apart-drop xs q i n d (IsDistinct-tail eq x xs distinct) same (omega arith) at (omega arith)
+
+-- a test and the front of a list
+module _ {X : Type 0} (p : X → Bool) where
+  pub none-take : (n : ℕ) (xs : List X) (d : X) → ((j : ℕ) → j < n → p (get_or xs j d) ≡ false) → list_any p (take n xs) ≡ false
+  none-take zero xs d fails = refl
+  none-take (suc n) [] d fails = refl
+  none-take (suc n) (x ∷ xs) d fails =
+      ap (λ b. b || list_any p (take n xs)) (fails zero (omega arith))
+      ∙ none-take n xs d (λ j below. fails (suc j) (omega arith))
+
+  pub any-take_at : (n : ℕ) (xs : List X) (i : ℕ) (d : X) → i < n → i < length xs → p (get_or xs i d) ≡ true → list_any p (take n xs) ≡ true
+  any-take_at n [] i d before within passes = absurd (omega arith)
+  any-take_at zero (x ∷ xs) i d before within passes = absurd (omega arith)
+  any-take_at (suc n) (x ∷ xs) zero d before within passes = ap (λ b. b || list_any p (take n xs)) passes
+  any-take_at (suc n) (x ∷ xs) (suc i) d before within passes =
+      ap (λ b. p x || b) (any-take_at n xs i d (omega arith) (omega arith) passes) ∙ or_comm (p x) true

@@ -1,10 +1,12 @@
-ghost use Rattle.std.specs.Prelude.{◌≡◌, ℕ, [], ◌∷◌, ◌++◌, ◌&&◌, ◌||◌, nat_eq, OnOk, OnErr, IfOk};
+ghost use Rattle.std.specs.Prelude.{◌≡◌, ℕ, [], ◌∷◌, ◌++◌, ◌&&◌, ◌||◌, not, nat_eq, filter, OnOk, OnErr, IfOk};
 ghost use Rattle.std.specs.List.{list_any};
 ghost use Rattle.cell_refs.specs.declared.grid.Cell.{Cell as OneCell};
 ghost use Rattle.cell_refs.specs.Cell.{same_cell};
 ghost use Rattle.topic_table.specs.Linking.{has_link, links_at};
+ghost use Rattle.topic_table.specs.Table.{has_reader};
 
 use super::cell_keys::CellKey;
+use super::rows::Rows;
 use cell_refs::Cell;
 use cell_values::Memory;
 use indexmap::IndexMap;
@@ -46,6 +48,13 @@ impl Ids {
         }
         self.ids.push(id)?;
         Ok(())
+    }
+
+    /// Keeps the ids of topics that have a cell as a kept reader.
+    fn retain_read(&mut self, cell: Cell, rows: &Rows)
+        ensures { self.new ≡ filter (λ id. has_reader rows.now id cell) self.old }
+    {
+        self.ids.retain(|id| rows.is_reader(*id, cell));
     }
 }
 
@@ -108,5 +117,16 @@ impl Links {
         let ids = Ids::one(self.alloc, id)?;
         self.links.insert(CellKey { cell }, ids)?;
         Ok(())
+    }
+
+    /// Keeps, of a cell, the ids of topics that have it as a kept reader.
+    pub fn clean(&mut self, cell: Cell, rows: &Rows)
+        ensures { (c : OneCell) (q : ℕ) → has_link self.new c q
+            ≡ (has_link self.old c q && (not (same_cell c cell) || has_reader rows.now q cell)) }
+    {
+        let Some(ids) = self.links.get_mut(&CellKey { cell }) else {
+            return;
+        };
+        ids.retain_read(cell, rows);
     }
 }

@@ -60,6 +60,16 @@ impl Readers {
         self.kept == 0
     }
 
+    /// Whether a cell is a kept reader.
+    pub fn is_kept(&self, cell: Cell) -> bool
+        ensures { result ≡ is_among self.now.kept cell }
+    {
+        match self.cells.position(cell) {
+            Some(place) => place < self.kept,
+            None => false,
+        }
+    }
+
     /// Whether there are readers, kept or in the running round.
     pub fn is_any(&self) -> bool
         ensures { result ≡ not (is_no_cell self.now.kept && is_no_cell self.now.running) }

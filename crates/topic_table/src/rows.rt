@@ -251,6 +251,16 @@ impl Rows {
         }
     }
 
+    /// Whether a cell is a kept reader of the topic of an id.
+    pub fn is_reader(&self, id: u64, cell: Cell) -> bool
+        ensures { result ≡ has_reader self.now id cell }
+    {
+        match row_of(&self.rows, id) {
+            Some(row) => row.readers.is_kept(cell),
+            None => false,
+        }
+    }
+
     /// Whether a cell has read the topic of an id in the running round.
     pub fn has_read(&self, id: u64, cell: Cell) -> bool
         ensures { result ≡ has_read self.now id cell }

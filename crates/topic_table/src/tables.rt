@@ -183,6 +183,7 @@ impl Topics {
     {
         if self.is_linked {
             forget_at(&mut self.rows, self.links.ids(cell), cell);
+            self.links.clean(cell, &self.rows);
         } else {
             self.rows.forget_everywhere(cell);
         }
