@@ -1,5 +1,5 @@
 -- What a pull takes, after a server has published.
-use Rattle.std.proofs.Common.{◌≡◌, ℕ, Bool, true, false, cond, ◌||◌, List, [], ◌∷◌, ◌++◌, Option, None, Some, refl, ap, sym, ◌∙◌, rules}
+use Rattle.std.proofs.Common.{◌≡◌, ℕ, Bool, true, false, cond, ◌||◌, List, [], ◌∷◌, ◌++◌, Option, None, Some, refl, ap, sym, ◌∙◌, append_assoc, rules}
 use Rattle.std.specs.Prelude.{is_some, map, nat_eq}
 use Rattle.std.specs.Cmp.{IsEquivalence}
 use Rattle.std.specs.List.{list_any}
@@ -82,3 +82,25 @@ pub pending-refreshed : (old new : ServerState) (news news' : NewsState) (pairs 
 pending-refreshed old new news news' pairs empty is given due id =
     ap (λ (n : NewsState). pending_at new n id) is ∙ pending-given old new news.sorted pairs given due id
     ∙ ap (λ (g : List (ℕ × Value)). pending_at old (record { given = g; sorted = news.sorted }) id) (sym empty)
+
+-- one that is due, or found
+found_first : (b : Bool) (v : Value) (x y : Option Value) → (is_some x ≡ true → is_some y ≡ true) → is_some (cond b (Some v) x) ≡ true → is_some (cond b (Some v) y) ≡ true
+found_first true v x y f h = refl
+found_first false v x y f h = f h
+
+-- what is found stays found where more stands behind
+found_before : (test : ℕ → Bool) (es more : List (ℕ × Value)) → is_some (lookup test es) ≡ true → is_some (lookup test (es ++ more)) ≡ true
+found_before test [] more h = cc
+found_before test (e ∷ es) more h = found_first (test e.0) e.1 (lookup test es) (lookup test (es ++ more)) (found_before test es more) h
+
+-- what always holds stays where news are taken out at the end
+pub sound-popped : (st : ServerState) (news news' : NewsState) (last : List (ℕ × Value)) → news'.given ≡ news.given → news.sorted ≡ news'.sorted ++ last
+    → IsSound st news → IsSound st news'
+sound-popped st news news' last given sorted sound = record {
+  fresh = sound.fresh;
+  stale = sound.stale;
+  linked = λ id h. sound.linked id
+    (found_first (is_due st id) (news_of st id) (news_at news' id) (news_at news id)
+      (λ found. ap (λ (es : List (ℕ × Value)). is_some (lookup (nat_eq id) es)) (ap (λ (g : List (ℕ × Value)). g ++ news.sorted) (sym given) ∙ ap (λ (s : List (ℕ × Value)). news'.given ++ s) sorted ∙ sym (append_assoc news'.given news'.sorted last))
+        ∙ found_before (nat_eq id) (news'.given ++ news'.sorted) last found) h);
+}

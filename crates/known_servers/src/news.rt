@@ -1,7 +1,8 @@
 //! The news that a server gave.
 
-ghost use Rattle.std.specs.Prelude.{◌≡◌, ◌≤◌, ◌<◌, ◌+◌, ◌++◌, ◌∷◌, ℕ, [], Some, None, OnOk, nat_eq, length, if◌then◌else◌, option_to_list};
-ghost use Rattle.std.specs.Map.{lookup};
+ghost use Rattle.std.specs.Prelude.{◌≡◌, ◌≤◌, ◌<◌, ◌+◌, ◌++◌, ◌∷◌, ℕ, [], Some, None, IfNone, IfSome, OnOk, nat_eq, length, slice_get, if◌then◌else◌, option_to_list};
+ghost use Rattle.std.specs.Map.{keys_of, lookup};
+ghost use Rattle.std.specs.Option.{option_map};
 ghost use Rattle.indexmap.specs.IndexMap.{spare};
 ghost use Rattle.known_servers.specs.News.{news_at};
 
@@ -71,8 +72,12 @@ impl News {
         self.sorted.len()
     }
 
-    /// The news at a place.
-    pub fn at(&self, place: usize) -> Option<(u64, &Value)> {
+    /// The news at a place: an id, and the value.
+    pub fn pair(&self, place: usize) -> Option<(u64, &Value)>
+        ensures id { option_map (λ pair. pair.0) result ≡ slice_get (keys_of self.now.sorted) place }
+        ensures value { IfSome result (λ pair. lookup (nat_eq pair.0) self.now.sorted
+            ≡ Some pair.1.now) }
+    {
         match self.sorted.get_index(place) {
             Some((id, value)) => Some((*id, value)),
             None => None,
@@ -83,6 +88,7 @@ impl News {
     pub fn pop(&mut self) -> Option<(u64, Value)>
         ensures given { self.new.given ≡ self.old.given }
         ensures sorted { self.old.sorted ≡ self.new.sorted ++ option_to_list result }
+        ensures empty { IfNone result (self.old.sorted ≡ []) }
     {
         self.sorted.pop()
     }

@@ -1,6 +1,8 @@
 //! A known server.
 
-ghost use Rattle.std.specs.Prelude.{◌≡◌, ◌<◌, ℕ, [], true, false, None, Some, IsTrue, IfOk, IfNone, IfSome, OnOk, OnErr, OnSome, is_some, position};
+ghost use Rattle.std.specs.Prelude.{◌≡◌, ◌<◌, ◌++◌, ℕ, [], true, false, None, Some, IfOk, IfNone, IfSome, OnOk, OnErr, length, nat_eq, option_to_list, position, slice_get};
+ghost use Rattle.std.specs.Map.{keys_of, lookup};
+ghost use Rattle.std.specs.Option.{option_map};
 ghost use Rattle.known_servers.specs.Server.{IsCurrent, IsGathered, IsNewView, SameName, SameView, ViewConnects, ViewDisconnects, ViewOpens, ViewPublishes, has_name, view_of};
 ghost use Rattle.rtd_server.specs.Server.{IsNewServer, value_or_na};
 
@@ -130,6 +132,34 @@ impl<S: RtdServer + Drop> KnownServer<S> {
         self.sort_in()?;
         self.refresh()?;
         self.sort_in()
+    }
+
+    /// How many news are sorted in.
+    pub fn news_len(&self) -> usize
+        ensures { result ≡ length self.now.news.sorted }
+    {
+        self.news.len()
+    }
+
+    /// The news at a place: an id, and the value.
+    pub fn news_pair(&self, place: usize) -> Option<(u64, &Value)>
+        ensures id { option_map (λ pair. pair.0) result
+            ≡ slice_get (keys_of self.now.news.sorted) place }
+        ensures value { IfSome result (λ pair. lookup (nat_eq pair.0) self.now.news.sorted
+            ≡ Some pair.1.now) }
+    {
+        self.news.pair(place)
+    }
+
+    /// Takes out the last news that are sorted in.
+    pub fn pop_news(&mut self) -> Option<(u64, Value)>
+        ensures name { SameName self.old self.new }
+        ensures server { self.new.server ≡ self.old.server }
+        ensures given { self.new.news.given ≡ self.old.news.given }
+        ensures sorted { self.old.news.sorted ≡ self.new.news.sorted ++ option_to_list result }
+        ensures empty { IfNone result (self.old.news.sorted ≡ []) }
+    {
+        self.news.pop()
     }
 
     /// Sorts in the news that were given.

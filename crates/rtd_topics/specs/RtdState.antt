@@ -2,6 +2,7 @@
 use Rattle.std.specs.Prelude.{◌≡◌, ◌≤◌, ℕ, Bool, true, false, not, ◌&&◌, ◌||◌, List, [], ◌∷◌, Option, Some, None, is_some, if◌then◌else◌, unwrap_or, map, All, AllPairs}
 use Rattle.std.specs.List.{filter, list_any}
 use Rattle.std.specs.Map.{keys_of, lookup}
+use Rattle.std.specs.Str.{bytes_eq}
 use Rattle.std.specs.Option.{option_and_then, option_map_or}
 use Rattle.cell_refs.specs.declared.grid.Cell.{Cell}
 use Rattle.cell_refs.specs.Cell.{is_among}
@@ -57,7 +58,7 @@ source_of s = record {
 -- what holds of each state: no server is known twice; something is published, read and taken of known servers alone; no
 -- topic is taken twice; and only taken topics have readers
 pub record IsRtdState (s : RtdState) : Type 0 where
-  pub named_once : AllPairs (λ (a b : KnownServer). is_named (a.name ∷ []) b.name ≡ false) s.servers
+  pub named_once : AllPairs (λ (a b : List ℕ). bytes_eq a b ≡ false) (map (λ (server : KnownServer). server.name) s.servers)
   pub published : (topic : Topic) → is_some (s.published topic) ≡ true → knows_topic s.servers topic ≡ true
   pub taken : (topic : Topic) → is_some (lookup (same_topic topic) s.taken) ≡ true → knows_topic s.servers topic ≡ true
   pub taken_once : AllPairs (λ (a b : Topic × Value). same_topic a.0 b.0 ≡ false) s.taken

@@ -1,6 +1,8 @@
 //! All that a host keeps of real-time data: the known servers, the connected topics, and the throttle.
 #![tactic(auto)]
 
+mod pulls;
+mod servers;
 mod sources;
 mod topics;
 #[cfg(test)]

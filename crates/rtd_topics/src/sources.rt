@@ -11,6 +11,6 @@ impl<S: RtdServer + Drop> TopicSource for RtdTopics<S> {
     ghost state = { λ topics. source_of (rtd_of S.state topics) };
 
     fn read(&mut self, topic: &Topic, reader: Cell) -> Result<Value, Memory> {
-        todo
+        self.read_topic(topic, reader)
     }
 }

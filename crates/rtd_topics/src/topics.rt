@@ -1,13 +1,18 @@
-ghost use Rattle.std.specs.Prelude.{◌≡◌, ◌<◌, ◌≤◌, ◌++◌, ◌∷◌, [], ℕ, true, false, not, ◌&&◌, Some, None, Ok, IsTrue, IfOk, OnOk, OnErr, OnTrue, OnFalse, IfSome, is_some, int_le, length, if◌then◌else◌, vec_capacity, vec_len};
+ghost use Rattle.std.specs.Prelude.{◌≡◌, ◌<◌, ◌≤◌, ◌+◌, ◌++◌, ◌∷◌, [], ℕ, true, false, not, ◌&&◌, ◌||◌, Some, None, Ok, IsTrue, IfOk, OnOk, OnErr, IfSome, is_some, int_le, length, nat_eq, position, if◌then◌else◌, vec_capacity, vec_len};
 ghost use Rattle.cell_refs.specs.declared.grid.Cell.{Cell as OneCell};
-ghost use Rattle.cell_refs.specs.Cell.{is_among};
+ghost use Rattle.cell_refs.specs.Cell.{is_among, same_cell};
+ghost use Rattle.topic_table.specs.Table.{KeepsReaders as KeepsTableReaders, has_read, id_of};
 ghost use Rattle.cell_values.specs.declared.topics.Topic.{Topic as OneTopic};
 ghost use Rattle.cell_values.specs.Topic.{same_topic};
 ghost use Rattle.rtd_topics.specs.Parts.{rtd_of};
 ghost use Rattle.rtd_topics.specs.RtdState.{IsRtdState, RunsNone, RunsRound, SameOpening, SamePublished, SameReaders, SameRtd, SameTopics, TakesRead, due_as, reads_one, rtd_snapshot, topics_changed};
 
+use super::pulls::{changed_ids, readers_of, take_all};
+use super::servers::{
+    connect_at, copy_texts, disconnect, gather_all, open_all, publish_at, raise_flag,
+};
 use cell_refs::Cell;
-use cell_values::{Memory, Name, Text, Texts, Topic, Value};
+use cell_values::{ErrorKind, Memory, Name, Text, Texts, Topic, Value};
 use known_servers::{KnownServer, place_of};
 use rtd_server::{Maker, RtdServer};
 use std::alloc::Global;
@@ -94,21 +99,28 @@ impl<S: RtdServer + Drop> RtdTopics<S> {
             → (rtd_of S.state result).reading topic cell ≡ false }
         ensures round { (rtd_of S.state result).round ≡ 0 }
     {
-        todo
+        RtdTopics {
+            alloc,
+            servers: Vec::new(alloc),
+            table: Topics::new(alloc),
+            throttle: Throttle::new(),
+            round: 0,
+            is_running: false,
+        }
     }
 
     /// What holds of each. It does nothing.
     pub fn facts(&self)
         ensures { IsRtdState (rtd_of S.state self.now) }
     {
-        todo
+        self.table.facts();
     }
 
     /// Whether a server is known.
     pub fn knows(&self, name: &Name) -> bool
         ensures { result ≡ is_named (names_known (rtd_of S.state self.now)) name.now }
     {
-        todo
+        place_of(&self.servers, name).is_some()
     }
 
     /// Makes and starts a server, and takes the memory to add one; None where it didn't start.
@@ -119,7 +131,14 @@ impl<S: RtdServer + Drop> RtdTopics<S> {
         ensures named { IfOk result (λ made. IfSome made (λ server. server.name ≡ name.now)) }
         ensures room { OnOk result (0 < self.new.room) }
     {
-        todo
+        let copy = name.copy()?;
+        let mut server = maker.make(self.alloc, name)?;
+        if server.server_start() < 1 {
+            return Ok(None);
+        }
+        self.servers.reserve(1)?;
+        let known = KnownServer::new(self.alloc, copy, server);
+        Ok(Some(NewServer { known }))
     }
 
     /// The server is the last known one. It takes no memory.
@@ -133,7 +152,7 @@ impl<S: RtdServer + Drop> RtdTopics<S> {
             ≡ (rtd_of S.state self.old).throttle }
         ensures topics { SameTopics (rtd_of S.state self.old) (rtd_of S.state self.new) }
     {
-        todo
+        push_reserved(&mut self.servers, server.known);
     }
 
     /// Publishes a value for strings of a server: false where it isn't known. A refusal changes nothing.
@@ -153,7 +172,12 @@ impl<S: RtdServer + Drop> RtdTopics<S> {
             ≡ (rtd_of S.state self.old).throttle }
         ensures topics { SameTopics (rtd_of S.state self.old) (rtd_of S.state self.new) }
     {
-        todo
+        let Some(place) = place_of(&self.servers, server) else {
+            return Ok(false);
+        };
+        let texts = copy_texts(self.alloc, strings.as_slice())?;
+        publish_at(&mut self.servers, place, server, texts, value)?;
+        Ok(true)
     }
 
     /// A server tells that it published: false where it isn't known. It takes no memory.
@@ -166,7 +190,7 @@ impl<S: RtdServer + Drop> RtdTopics<S> {
             ≡ (rtd_of S.state self.old).throttle }
         ensures topics { SameTopics (rtd_of S.state self.old) (rtd_of S.state self.new) }
     {
-        todo
+        raise_flag(&mut self.servers, name)
     }
 
     /// Sets the interval of the throttle, in milliseconds.
@@ -179,14 +203,14 @@ impl<S: RtdServer + Drop> RtdTopics<S> {
             ≡ record (rtd_of S.state self.old).throttle { interval = ms } }
         ensures topics { SameTopics (rtd_of S.state self.old) (rtd_of S.state self.new) }
     {
-        todo
+        self.throttle.set(ms);
     }
 
     /// Whether a server tells that it published.
     pub fn is_flagged(&self) -> bool
         ensures { result ≡ is_flagged (rtd_of S.state self.now).servers }
     {
-        todo
+        self.servers.iter().any(|known| known.flag())
     }
 
     /// Whether a pull is due at a moment; a forced one always is.
@@ -194,7 +218,10 @@ impl<S: RtdServer + Drop> RtdTopics<S> {
         requires { IsMoment moment.now }
         ensures { due_as result ≡ pull_due (rtd_of S.state self.now).throttle moment.now }
     {
-        todo
+        match moment {
+            Moment::At(now) => self.throttle.due(*now),
+            Moment::Force => Due::Now,
+        }
     }
 
     /// Has the flagged servers give their news, and tells what a pull takes. It changes nothing that shows, also where it
@@ -209,7 +236,13 @@ impl<S: RtdServer + Drop> RtdTopics<S> {
             cell) }
         ensures prepared { OnOk result (IsPrepared S.state self.new) }
     {
-        todo
+        gather_all(&mut self.servers)?;
+        let ids = changed_ids(self.alloc, &self.servers, &self.table)?;
+        let readers = readers_of(self.alloc, &self.table, ids.as_slice())?;
+        Ok(PullNews {
+            changed: ids.len() as u64,
+            readers,
+        })
     }
 
     /// Takes what was told of a pull. It takes no memory.
@@ -228,7 +261,10 @@ impl<S: RtdServer + Drop> RtdTopics<S> {
         ensures read { SameReaders (rtd_of S.state self.old) (rtd_of S.state self.new) }
         ensures round { (rtd_of S.state self.new).round ≡ (rtd_of S.state self.old).round }
     {
-        todo
+        take_all(&mut self.servers, &mut self.table);
+        if let Moment::At(now) = moment {
+            self.throttle.pulled(*now);
+        }
     }
 
     /// A recalculation begins, with a number greater than those before. What these cells have read is forgotten for it.
@@ -252,7 +288,10 @@ impl<S: RtdServer + Drop> RtdTopics<S> {
             && not (is_among forgotten.now cell)) }
         ensures round { (rtd_of S.state self.new).round ≡ round }
     {
-        todo
+        open_all(&mut self.servers);
+        self.table.start_round(forgotten);
+        self.round = round;
+        self.is_running = true;
     }
 
     /// The recalculation that runs is completed: what it read is taken, and the other topics are disconnected. It takes
@@ -270,7 +309,11 @@ impl<S: RtdServer + Drop> RtdTopics<S> {
             ≡ (rtd_of S.state self.old).reading topic cell }
         ensures round { (rtd_of S.state self.new).round ≡ (rtd_of S.state self.old).round }
     {
-        todo
+        self.is_running = false;
+        self.table.keep_round();
+        while let Some((topic, id)) = self.table.pop_unread() {
+            disconnect(&mut self.servers, &topic.server, id);
+        }
     }
 
     /// The recalculation that runs ends, and nothing of it is taken; the topics that were connected in it are
@@ -288,6 +331,114 @@ impl<S: RtdServer + Drop> RtdTopics<S> {
             ≡ (rtd_of S.state self.old).readers topic cell }
         ensures round { (rtd_of S.state self.new).round ≡ (rtd_of S.state self.old).round }
     {
-        todo
+        self.is_running = false;
+        self.table.drop_round();
+        while let Some((topic, id)) = self.table.pop_since(self.round) {
+            disconnect(&mut self.servers, &topic.server, id);
+        }
     }
+}
+
+impl<S: RtdServer + Drop> RtdTopics<S> {
+    ghost use Rattle.rtd_topics.specs.RtdState.{source_of};
+    ghost use Rattle.rtd_topics.specs.Parts.{server_named};
+    ghost use Rattle.topic_source.specs.Source.{KeepsReaders, KeepsValues, NotesReader};
+    ghost use Rattle.known_servers.specs.Server.{has_name};
+
+    /// The value of a topic, which this cell reads.
+    pub fn read_topic(&mut self, topic: &Topic, reader: Cell) -> Result<Value, Memory>
+        ensures value { IfOk result (λ value. value
+            ≡ rtd_snapshot (rtd_of S.state self.old) topic.now) }
+        ensures values { KeepsValues (source_of (rtd_of S.state self.old))
+            (source_of (rtd_of S.state self.new)) }
+        ensures noted { OnOk result (NotesReader (source_of (rtd_of S.state self.old))
+            (source_of (rtd_of S.state self.new)) topic.now reader) }
+        ensures refused { OnErr result (KeepsReaders (source_of (rtd_of S.state self.old))
+            (source_of (rtd_of S.state self.new))) }
+    {
+        if let Some(id) = self.table.find(topic) {
+            return self.read_connected(topic, id, reader);
+        }
+        match place_of(&self.servers, &topic.server) {
+            Some(place) if self.is_running => self.read_new(topic, place, reader),
+            _ => Ok(Value::Error(ErrorKind::Na)),
+        }
+    }
+
+    /// The value of a connected topic, which this cell reads.
+    fn read_connected(&mut self, topic: &Topic, id: u64, reader: Cell) -> Result<Value, Memory>
+        requires { id_of self.old.table.topics topic.now ≡ Some id }
+        ensures value { IfOk result (λ value. value
+            ≡ rtd_snapshot (rtd_of S.state self.old) topic.now) }
+        ensures values { KeepsValues (source_of (rtd_of S.state self.old))
+            (source_of (rtd_of S.state self.new)) }
+        ensures noted { OnOk result (NotesReader (source_of (rtd_of S.state self.old))
+            (source_of (rtd_of S.state self.new)) topic.now reader) }
+        ensures refused { OnErr result (KeepsReaders (source_of (rtd_of S.state self.old))
+            (source_of (rtd_of S.state self.new))) }
+    {
+        let Some(value) = self.table.value(id) else {
+            unreachable!()
+        };
+        let value = value.copy()?;
+        if self.is_running {
+            self.table.read_by(id, reader)?;
+        }
+        Ok(value)
+    }
+
+    /// Connects a topic of the server at a place, and answers its value, which this cell reads.
+    fn read_new(&mut self, topic: &Topic, place: usize, reader: Cell) -> Result<Value, Memory>
+        requires running { self.old.is_running ≡ true }
+        requires new { id_of self.old.table.topics topic.now ≡ None }
+        requires place { position (has_name topic.now.server) self.old.servers ≡ Some place }
+        ensures value { IfOk result (λ value. value
+            ≡ rtd_snapshot (rtd_of S.state self.old) topic.now) }
+        ensures values { KeepsValues (source_of (rtd_of S.state self.old))
+            (source_of (rtd_of S.state self.new)) }
+        ensures noted { OnOk result (NotesReader (source_of (rtd_of S.state self.old))
+            (source_of (rtd_of S.state self.new)) topic.now reader) }
+        ensures refused { OnErr result (KeepsReaders (source_of (rtd_of S.state self.old))
+            (source_of (rtd_of S.state self.new))) }
+    {
+        let copy = topic.copy()?;
+        let id = self.table.reserve()?;
+        let strings = topic.strings.as_slice();
+        let value = connect_at(&mut self.servers, place, &topic.server, id, strings)?;
+        let Ok(kept) = value.copy() else {
+            disconnect(&mut self.servers, &topic.server, id);
+            return Err(Memory);
+        };
+        add_topic(&mut self.table, copy, kept, self.round, reader);
+        Ok(value)
+    }
+}
+
+/// Adds a topic with its first reader, where there is room.
+fn add_topic(table: &mut Topics, topic: Topic, value: Value, round: u64, reader: Cell)
+    requires new { id_of table.old.topics topic ≡ None }
+    requires room { 0 < table.old.room }
+    ensures topics { table.new.topics ≡ table.old.topics ++ (record {
+        id = table.old.greatest + 1;
+        topic = topic;
+        value = value;
+        round = round
+    }) ∷ [] }
+    ensures greatest { table.new.greatest ≡ table.old.greatest + 1 }
+    ensures readers { KeepsTableReaders table.old table.new }
+    ensures running { (q : ℕ) (cell : OneCell) → has_read table.new q cell
+        ≡ ((nat_eq (table.old.greatest + 1) q && same_cell cell reader)
+        || has_read table.old q cell) }
+{
+    if let Ok(id) = table.connect(topic, value, round) {
+        let _ = table.read_by(id, reader);
+    }
+}
+
+/// Puts a server at the end, where there is room.
+fn push_reserved<S: RtdServer + Drop>(servers: &mut Vec<KnownServer<S>>, known: KnownServer<S>)
+    requires { vec_len servers.old < vec_capacity servers.old }
+    ensures { servers.new.items ≡ servers.old.items ++ known ∷ [] }
+{
+    let _ = servers.push(known);
 }

@@ -1,0 +1,9 @@
+pub mod Disconnecting
+pub mod Linking
+pub mod Noting
+pub mod Results
+pub mod RtdFacts
+pub mod ServerLists
+pub mod TableFacts
+pub mod Taking
+pub mod Views
