@@ -1,6 +1,8 @@
+pub mod Adding
 pub mod Disconnecting
 pub mod Linking
 pub mod Noting
+pub mod Publishing
 pub mod Results
 pub mod RtdFacts
 pub mod ServerLists

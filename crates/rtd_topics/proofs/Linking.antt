@@ -3,7 +3,7 @@ use Rattle.std.proofs.Common.{◌≡◌, ◌≢◌, ℕ, ◌+◌, ◌<◌, ◌�
 use Rattle.std.proofs.lemmas.List.Elements.{All-same, All-weaker}
 use Rattle.std.specs.Prelude.{◌&&◌, All, AllPairs, is_some, nat_eq, not, unwrap_or}
 use Rattle.std.specs.Bool.{MatchBool}
-use Rattle.std.specs.List.{AllZip}
+use Rattle.std.specs.List.{AllZip, IsDistinct}
 use Rattle.std.specs.Option.{option_and_then}
 use Rattle.std.specs.Str.{bytes_eq}
 use Rattle.std.proofs.lemmas.Bool.{eqb-true}
@@ -22,8 +22,8 @@ use Rattle.rtd_topics.proofs.Views.{KeepsLink, current-kept}
 use Rattle.topic_table.specs.Table.{ConnectedTopic, KeepsReaders, KeepsRunning, KeepsTopics, TableState, TakesOut, has_read, has_reader, topic_at}
 
 -- names that stand once stay so where they are the same
-pub once-kept : (ns ns' : List (List ℕ)) → ns' ≡ ns → AllPairs (λ (a b : List ℕ). bytes_eq a b ≡ false) ns → AllPairs (λ (a b : List ℕ). bytes_eq a b ≡ false) ns'
-once-kept ns ns' same once = let P : List (List ℕ) → Type 0 = λ xs. AllPairs (λ (a b : List ℕ). bytes_eq a b ≡ false) xs in subst P (sym same) once
+pub once-kept : (ns ns' : List (List ℕ)) → ns' ≡ ns → IsDistinct bytes_eq ns → IsDistinct bytes_eq ns'
+once-kept ns ns' same once = subst (IsDistinct bytes_eq) (sym same) once
 
 -- what was published at the opening stays
 pub opening-kept : {S : Type 0} (state : S → ServerState) (R : List ℕ → ServerParts S → ServerParts S → Type 0) (ks ks' : List (ServerParts S)) → Follows R ks ks'

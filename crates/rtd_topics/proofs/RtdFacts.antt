@@ -1,7 +1,7 @@
 -- What a host keeps of real-time data, where its parts change.
 use Rattle.std.proofs.Common.{◌≡◌, ◌≢◌, ℕ, ◌+◌, ◌<◌, ◌≤◌, Bool, true, false, cond, ◌||◌, List, [], ◌∷◌, ◌++◌, Option, None, Some, get_or, refl, ap, sym, subst, ◌∙◌, arith, rules}
 use Rattle.std.specs.Prelude.{◌&&◌, All, filter, is_some, map, nat_eq, not}
-use Rattle.std.specs.List.{AllZip}
+use Rattle.std.specs.List.{AllZip, list_any}
 use Rattle.std.specs.Option.{option_map_or}
 use Rattle.std.proofs.lemmas.Bool.{eqb-true}
 use Rattle.std.proofs.lemmas.List.Elements.{All-same, All-weaker}
@@ -9,8 +9,9 @@ use Rattle.cell_refs.specs.declared.grid.Cell.{Cell}
 use Rattle.cell_values.specs.declared.topics.Topic.{Topic}
 use Rattle.cell_values.specs.declared.values.Value.{Value}
 use Rattle.known_servers.specs.Server.{ServerParts, view_of}
-use Rattle.rtd_server.specs.Server.{ServerState}
-use Rattle.rtd_topics.specs.Parts.{OpensServer, is_of_round, opening_of, published_of, server_named, topic_has, with_value}
+use Rattle.rtd_server.specs.Server.{IsNewServer, KeepsAll, ServerState}
+use Rattle.rtd_topics.specs.RtdState.{RtdState, SameOpening, SameRtd}
+use Rattle.rtd_topics.specs.Parts.{OpensServer, RtdParts, is_of_round, opening_of, published_of, rtd_of, server_named, topic_has, with_value}
 use Rattle.rtd_topics.proofs.ServerLists.{both-then_other, follows-zip}
 use Rattle.rtd_topics.proofs.TableFacts.{filter-all}
 use Rattle.topic_table.specs.Table.{ConnectedTopic, TableState, id_of}
@@ -72,3 +73,37 @@ has-but has has' topics topics' gone is same topic cell = ap (λ ts. topic_has h
     at : (o : Option ℕ) → option_map_or (λ id. has' id cell) o false ≡ (option_map_or (λ id. has id cell) o false && not (gone cell))
     at None = refl
     at (Some id) = same id cell
+
+-- the opening stays
+pub same-opening : (o : Option (Topic → Option Value)) → SameOpening o o
+same-opening None = tt
+same-opening (Some f) = λ topic. refl
+
+-- all stays as it is
+pub same-itself : (s : RtdState) → SameRtd s s
+same-itself s = record {
+  servers = refl;
+  published = λ topic. refl;
+  throttle = refl;
+  topics = record { taken = refl; opening = same-opening s.opening; read = record { readers = λ topic cell. refl; reading = λ topic cell. refl }; round = refl };
+}
+
+-- a server that was started holds what it held, nothing
+pub started : (old new : ServerState) → KeepsAll old new → IsNewServer old → IsNewServer new
+started old new kept fresh =
+    (λ s. kept.0.0 s ∙ fresh.0 s, λ s. kept.0.1 s ∙ fresh.1 s, λ s. kept.0.2 s ∙ fresh.2 s, λ id. kept.1 id ∙ fresh.3 id,
+    none_due new.due (λ id. kept.2 id ∙ ap (λ (ids : List ℕ). list_any (nat_eq id) ids) fresh.4))
+  where
+    none_due : (ids : List ℕ) → ((id : ℕ) → list_any (nat_eq id) ids ≡ false) → ids ≡ []
+    none_due [] none = refl
+    none_due (x ∷ ids) none = absurd (cc (sym (none x) ∙ ap (λ b. b || list_any (nat_eq x) ids) (same x)))
+      where
+        same : (x : ℕ) → nat_eq x x ≡ true
+        same x = search (rules)
+
+-- all stays where the parts do, whatever the room
+pub same-parts : {S : Type 0} (state : S → ServerState) (p p' : RtdParts S) → p'.servers ≡ p.servers → p'.table ≡ p.table → p'.pacing ≡ p.pacing → p'.round ≡ p.round → p'.is_running ≡ p.is_running
+    → SameRtd (rtd_of state p) (rtd_of state p')
+same-parts {S} state p p' servers table pacing round running =
+    let path : rtd_of state p' ≡ rtd_of state p = λ i. rtd_of state (record { servers = servers i; table = table i; pacing = pacing i; round = round i; is_running = running i; room = p.room }) in
+    subst (λ (s : RtdState). SameRtd (rtd_of state p) s) (sym path) (same-itself (rtd_of state p))

@@ -1,7 +1,7 @@
 -- Lists of servers: one is changed, each is changed, one comes.
 use Rattle.std.proofs.Common.{◌≡◌, ℕ, zero, suc, ◌+◌, ◌<◌, Bool, true, false, cond, ◌||◌, List, [], ◌∷◌, ◌++◌, Option, None, Some, length, get_or, set, refl, ap, sym, subst, ◌∙◌, arith, rules}
 use Rattle.std.specs.Prelude.{◌≢◌, ◌≤◌, ◌⊎◌, All, drop, find, is_some, map, position}
-use Rattle.std.specs.List.{AllZip, list_any, position_from, position_or_len}
+use Rattle.std.specs.List.{AllByRecursion, AllZip, IsDistinct, list_any, position_from, position_or_len}
 use Rattle.std.specs.Option.{option_and_then}
 use Rattle.std.specs.Str.{bytes_eq}
 use Rattle.std.proofs.lemmas.List.{drop_all, take_all}
@@ -15,6 +15,16 @@ use Rattle.std.proofs.lemmas.Slice.Eq.{bytes_eq-Decides}
 use Rattle.known_servers.specs.Server.{SameName, ServerParts, has_name}
 use Rattle.workbook.specs.State.{KnownServer}
 use Rattle.rtd_topics.specs.Parts.{Both, Follows, known_of, names_of, server_named}
+
+-- none passes where each fails
+none-any : {X : Type 0} (p : X → Bool) (xs : List X) → AllByRecursion (λ x. p x ≡ false) xs → list_any p xs ≡ false
+none-any p [] all = refl
+none-any p (x ∷ xs) all = ap (λ b. b || list_any p xs) all.0 ∙ none-any p xs all.1
+
+-- the first of distinct ones isn't among the others, and these are distinct
+pub distinct-parts : {X : Type 0} (eq : X → X → Bool) (x : X) (xs : List X) → IsDistinct eq (x ∷ xs) → (list_any (eq x) xs ≡ false) × IsDistinct eq xs
+unfolding IsDistinct
+distinct-parts eq x xs once = (none-any (eq x) xs once.0, once.1)
 
 -- equal bytes are equal
 pub equal_names : (a b : List ℕ) → bytes_eq a b ≡ true → a ≡ b
@@ -271,3 +281,13 @@ placed-named {S} ks m = ap is_some (position_from-zero (has_name m) ks) ∙ plac
 pub names-known : {S : Type 0} (ks : List (ServerParts S)) → map (λ (s : KnownServer). s.name) (map known_of ks) ≡ names_of ks
 names-known [] = refl
 names-known (k ∷ ks) = ap (λ ns. k.name ∷ ns) (names-known ks)
+
+-- a server of a name is flagged or not, as it is told
+pub any-known : {S : Type 0} (ks : List (ServerParts S)) → list_any (λ (s : KnownServer). s.flag) (map known_of ks) ≡ list_any (λ (k : ServerParts S). k.flag) ks
+any-known [] = refl
+any-known (k ∷ ks) = ap (λ b. k.flag || b) (any-known ks)
+
+-- a name is among those that are told where it has a place
+pub known-placed : {S : Type 0} (ks : List (ServerParts S)) (m : List ℕ) (r : Option ℕ) → r ≡ position (has_name m) ks
+    → is_some r ≡ list_any (bytes_eq m) (map (λ (s : KnownServer). s.name) (map known_of ks))
+known-placed ks m r at = ap is_some at ∙ placed-named ks m ∙ ap (list_any (bytes_eq m)) (sym (names-known ks))

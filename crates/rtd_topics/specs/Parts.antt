@@ -1,7 +1,7 @@
 -- For the crate's own functions: the parts that a host's real-time data are kept in.
-use Rattle.std.specs.Prelude.{◌≡◌, ℕ, ◌≤◌, Bool, true, false, not, ◌&&◌, ◌||◌, List, [], ◌∷◌, Option, Some, None, is_some, if◌then◌else◌, nat_eq, map, find, filter, unwrap_or, All, AllPairs}
+use Rattle.std.specs.Prelude.{◌≡◌, ℕ, ◌≤◌, Bool, true, false, not, ◌&&◌, List, [], ◌∷◌, Option, Some, None, is_some, if◌then◌else◌, nat_eq, map, find, filter, unwrap_or, All, AllPairs}
 use Rattle.std.specs.Bool.{MatchBool}
-use Rattle.std.specs.List.{AllZip, list_any}
+use Rattle.std.specs.List.{AllZip, IsDistinct, list_any}
 use Rattle.std.specs.Map.{lookup}
 use Rattle.std.specs.Option.{option_and_then, option_map_or}
 use Rattle.std.specs.Str.{bytes_eq}
@@ -17,6 +17,7 @@ use Rattle.rtd_topics.specs.RtdState.{RtdState}
 use Rattle.throttle.specs.Pacing.{Pacing}
 use Rattle.topic_table.specs.Table.{ConnectedTopic, TableState, has_other_value, has_read, has_reader, id_of, topic_at}
 use Rattle.workbook.specs.State.{KnownServer}
+use Rattle.workbook.specs.Step.{servers_with_flag}
 
 -- the known servers, the table of connected topics, the throttle, the number of the last recalculation, whether it runs,
 -- and how many servers can be added with the memory that was taken
@@ -83,7 +84,7 @@ names_of {S} servers = map (λ (k : ServerParts S). k.name) servers
 -- the servers have the topics of the table connected, and no others; a pull leaves each with what is published; and those
 -- that were connected in the recalculation that runs have the value of its beginning, and no reader before it
 pub record IsLinked {S : Type 0} (state : S → ServerState) (servers : List (ServerParts S)) (table : TableState) (round : ℕ) (is_running : Bool) : Type 0 where
-  pub once : AllPairs (λ (a b : List ℕ). bytes_eq a b ≡ false) (names_of servers)
+  pub once : IsDistinct bytes_eq (names_of servers)
   pub connected : (name : List ℕ) (k : ServerParts S) → server_named servers name ≡ Some k
       → (id : ℕ) → (view_of state k).connected id ≡ strings_for table.topics name id
   pub served : (id : ℕ) (t : ConnectedTopic) → topic_at table.topics id ≡ Some t
@@ -150,8 +151,7 @@ ShowsSame state old new = (new.name ≡ old.name) × SameView (view_of state old
 
 -- the flag of the server of this name is up, where there is one
 pub record FlagsAt {S : Type 0} (state : S → ServerState) (old new : List (ServerParts S)) (name : List ℕ) : Type 0 where
-  pub known : names_of new ≡ names_of old
-  pub flags : is_some (server_named old name) ≡ true → Follows (λ at k k'. k'.flag ≡ (bytes_eq name at || k.flag)) old new
+  pub flags : IsDistinct bytes_eq (names_of old) → map known_of new ≡ servers_with_flag (map known_of old) name
   pub each : Follows (λ at. ShowsSame state) old new
 
 -- the server of this name doesn't have this id connected

@@ -1,6 +1,6 @@
 -- What a host keeps of real-time data, and how its calls change it.
 use Rattle.std.specs.Prelude.{◌≡◌, ◌≤◌, ℕ, Bool, true, false, not, ◌&&◌, ◌||◌, List, [], ◌∷◌, Option, Some, None, is_some, if◌then◌else◌, unwrap_or, map, All, AllPairs}
-use Rattle.std.specs.List.{filter, list_any}
+use Rattle.std.specs.List.{filter, list_any, IsDistinct}
 use Rattle.std.specs.Map.{keys_of, lookup}
 use Rattle.std.specs.Str.{bytes_eq}
 use Rattle.std.specs.Option.{option_and_then, option_map_or}
@@ -58,10 +58,10 @@ source_of s = record {
 -- what holds of each state: no server is known twice; something is published, read and taken of known servers alone; no
 -- topic is taken twice; and only taken topics have readers
 pub record IsRtdState (s : RtdState) : Type 0 where
-  pub named_once : AllPairs (λ (a b : List ℕ). bytes_eq a b ≡ false) (map (λ (server : KnownServer). server.name) s.servers)
+  pub named_once : IsDistinct bytes_eq (map (λ (server : KnownServer). server.name) s.servers)
   pub published : (topic : Topic) → is_some (s.published topic) ≡ true → knows_topic s.servers topic ≡ true
   pub taken : (topic : Topic) → is_some (lookup (same_topic topic) s.taken) ≡ true → knows_topic s.servers topic ≡ true
-  pub taken_once : AllPairs (λ (a b : Topic × Value). same_topic a.0 b.0 ≡ false) s.taken
+  pub taken_once : IsDistinct same_topic (keys_of s.taken)
   pub readers : (topic : Topic) (cell : Cell) → s.readers topic cell ≡ true → is_some (lookup (same_topic topic) s.taken) ≡ true
   pub reading : (topic : Topic) (cell : Cell) → s.reading topic cell ≡ true → knows_topic s.servers topic ≡ true
 

@@ -2,7 +2,7 @@
 
 ghost use Rattle.std.specs.Prelude.{◌≡◌, Some, OnOk, OnErr, IfOk, All, is_some, position};
 ghost use Rattle.known_servers.specs.Server.{has_name};
-ghost use Rattle.std.specs.List.{AllZip};
+ghost use Rattle.std.specs.List.{AllZip, list_any};
 ghost use Rattle.rtd_topics.specs.Parts.{ConnectsAt, DisconnectsAt, FlagsAt, IsApart, IsPreparedServer, KeepsAt, KeepsServer, OpensServer, PublishesAt, opening_or_na, server_named};
 
 use cell_values::{Memory, Name, Text, Value};
@@ -162,6 +162,13 @@ fn connect_in<S: RtdServer + Drop>(
     ensures refused { OnErr result (KeepsAt S.state servers.old servers.new) }
 {
     servers[place].connect(id, texts)
+}
+
+/// Whether a server is flagged.
+pub fn is_any_flagged<S: RtdServer + Drop>(servers: &[KnownServer<S>]) -> bool
+    ensures { result ≡ list_any (λ k. k.flag) servers.now }
+{
+    servers.iter().any(|known| known.flag())
 }
 
 /// The texts of a slice.

@@ -9,7 +9,8 @@ ghost use Rattle.rtd_topics.specs.RtdState.{IsRtdState, RunsNone, RunsRound, Sam
 
 use super::pulls::{changed_ids, readers_of, take_all};
 use super::servers::{
-    connect_at, copy_texts, disconnect, gather_all, open_all, publish_at, raise_flag,
+    connect_at, copy_texts, disconnect, gather_all, is_any_flagged, open_all, publish_at,
+    raise_flag,
 };
 use cell_refs::Cell;
 use cell_values::{ErrorKind, Memory, Name, Text, Texts, Topic, Value};
@@ -210,7 +211,7 @@ impl<S: RtdServer + Drop> RtdTopics<S> {
     pub fn is_flagged(&self) -> bool
         ensures { result ≡ is_flagged (rtd_of S.state self.now).servers }
     {
-        self.servers.iter().any(|known| known.flag())
+        is_any_flagged(&self.servers)
     }
 
     /// Whether a pull is due at a moment; a forced one always is.
