@@ -357,18 +357,60 @@ impl<S: RtdServer + Drop> RtdTopics<S> {
         ensures refused { OnErr result (KeepsReaders (source_of (rtd_of S.state self.old))
             (source_of (rtd_of S.state self.new))) }
     {
-        if let Some(id) = self.table.find(topic) {
-            return self.read_connected(topic, id, reader);
+        if !self.is_running {
+            return self.value_at_rest(topic);
         }
-        match place_of(&self.servers, &topic.server) {
-            Some(place) if self.is_running => self.read_new(topic, place, reader),
-            _ => Ok(Value::Error(ErrorKind::Na)),
+        let Some(id) = self.table.find(topic) else {
+            return self.read_unconnected(topic, reader);
+        };
+        let value = self.value_at(topic, id)?;
+        self.note_reader(topic, id, reader)?;
+        Ok(value)
+    }
+
+    /// The value of a topic where no recalculation runs.
+    fn value_at_rest(&self, topic: &Topic) -> Result<Value, Memory>
+        requires { self.now.is_running ≡ false }
+        ensures { IfOk result (λ value. value ≡ rtd_snapshot (rtd_of S.state self.now) topic.now) }
+    {
+        match self.table.find(topic) {
+            Some(id) => self.value_at(topic, id),
+            None => Ok(Value::Error(ErrorKind::Na)),
         }
     }
 
-    /// The value of a connected topic, which this cell reads.
-    fn read_connected(&mut self, topic: &Topic, id: u64, reader: Cell) -> Result<Value, Memory>
-        requires { id_of self.old.table.topics topic.now ≡ Some id }
+    /// The value of a connected topic.
+    fn value_at(&self, topic: &Topic, id: u64) -> Result<Value, Memory>
+        requires { id_of self.now.table.topics topic.now ≡ Some id }
+        ensures { IfOk result (λ value. value ≡ rtd_snapshot (rtd_of S.state self.now) topic.now) }
+    {
+        self.table.facts();
+        match self.table.value(id) {
+            Some(value) => value.copy(),
+            None => Ok(Value::Error(ErrorKind::Na)),
+        }
+    }
+
+    /// Notes that a cell reads a connected topic in the recalculation that runs.
+    fn note_reader(&mut self, topic: &Topic, id: u64, reader: Cell) -> Result<(), Memory>
+        requires running { self.old.is_running ≡ true }
+        requires connected { id_of self.old.table.topics topic.now ≡ Some id }
+        ensures values { KeepsValues (source_of (rtd_of S.state self.old))
+            (source_of (rtd_of S.state self.new)) }
+        ensures noted { OnOk result (NotesReader (source_of (rtd_of S.state self.old))
+            (source_of (rtd_of S.state self.new)) topic.now reader) }
+        ensures refused { OnErr result (KeepsReaders (source_of (rtd_of S.state self.old))
+            (source_of (rtd_of S.state self.new))) }
+    {
+        self.table.facts();
+        self.table.read_by(id, reader)?;
+        Ok(())
+    }
+
+    /// The value of a topic that isn't connected, in the recalculation that runs.
+    fn read_unconnected(&mut self, topic: &Topic, reader: Cell) -> Result<Value, Memory>
+        requires running { self.old.is_running ≡ true }
+        requires new { id_of self.old.table.topics topic.now ≡ None }
         ensures value { IfOk result (λ value. value
             ≡ rtd_snapshot (rtd_of S.state self.old) topic.now) }
         ensures values { KeepsValues (source_of (rtd_of S.state self.old))
@@ -378,14 +420,10 @@ impl<S: RtdServer + Drop> RtdTopics<S> {
         ensures refused { OnErr result (KeepsReaders (source_of (rtd_of S.state self.old))
             (source_of (rtd_of S.state self.new))) }
     {
-        let Some(value) = self.table.value(id) else {
-            unreachable!()
-        };
-        let value = value.copy()?;
-        if self.is_running {
-            self.table.read_by(id, reader)?;
+        match place_of(&self.servers, &topic.server) {
+            Some(place) => self.read_new(topic, place, reader),
+            None => Ok(Value::Error(ErrorKind::Na)),
         }
-        Ok(value)
     }
 
     /// Connects a topic of the server at a place, and answers its value, which this cell reads.
