@@ -23,7 +23,7 @@ added-at : {S : Type 0} (ks : List (ServerParts S)) (k : ServerParts S) (m : Lis
 added-at ks k m = find-append (has_name m) ks (k ∷ [])
 
 -- it was there, or it is the new one
-added-cases : {P : Type 0} (o : Option P) (b : Bool) (k k' : P) → option_or o (cond b (Some k) None) ≡ Some k' → (o ≡ Some k') ⊎ ((o ≡ None) × ((b ≡ true) × (k ≡ k')))
+pub added-cases : {P : Type 0} (o : Option P) (b : Bool) (k k' : P) → option_or o (cond b (Some k) None) ≡ Some k' → (o ≡ Some k') ⊎ ((o ≡ None) × ((b ≡ true) × (k ≡ k')))
 added-cases None true k k' e = inr (refl, (refl, one k k' e))
   where
     one : {P : Type 0} (x y : P) → Some x ≡ Some y → x ≡ y
@@ -37,7 +37,7 @@ added-which : {S : Type 0} (ks : List (ServerParts S)) (k k' : ServerParts S) (m
 added-which ks k k' m e = added-cases (server_named ks m) (bytes_eq m k.name) k k' (sym (added-at ks k m) ∙ e)
 
 -- what was there stays
-added-found : {P : Type 0} (o p : Option P) → is_some o ≡ true → option_or o p ≡ o
+pub added-found : {P : Type 0} (o p : Option P) → is_some o ≡ true → option_or o p ≡ o
 added-found None p h = absurd (cc h)
 added-found (Some x) p h = refl
 

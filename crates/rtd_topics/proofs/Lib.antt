@@ -1,4 +1,5 @@
 pub mod Adding
+pub mod Connecting
 pub mod Disconnecting
 pub mod Linking
 pub mod Noting

@@ -1,7 +1,7 @@
 ghost use Rattle.std.specs.Prelude.{◌≡◌, ◌<◌, ◌≤◌, ◌+◌, ◌++◌, ◌∷◌, [], ℕ, true, false, not, ◌&&◌, ◌||◌, Some, None, Ok, IsTrue, IfOk, OnOk, OnErr, IfSome, is_some, int_le, length, nat_eq, position, if◌then◌else◌, vec_capacity, vec_len};
 ghost use Rattle.cell_refs.specs.declared.grid.Cell.{Cell as OneCell};
-ghost use Rattle.cell_refs.specs.Cell.{is_among, same_cell};
-ghost use Rattle.topic_table.specs.Table.{KeepsReaders as KeepsTableReaders, has_read, id_of};
+ghost use Rattle.cell_refs.specs.Cell.{is_among};
+ghost use Rattle.topic_table.specs.Table.{KeepsReaders as KeepsTableReaders, KeepsRunning, id_of};
 ghost use Rattle.cell_values.specs.declared.topics.Topic.{Topic as OneTopic};
 ghost use Rattle.cell_values.specs.Topic.{same_topic};
 ghost use Rattle.rtd_topics.specs.Parts.{rtd_of};
@@ -420,41 +420,39 @@ impl<S: RtdServer + Drop> RtdTopics<S> {
         ensures refused { OnErr result (KeepsReaders (source_of (rtd_of S.state self.old))
             (source_of (rtd_of S.state self.new))) }
     {
-        match place_of(&self.servers, &topic.server) {
-            Some(place) => self.read_new(topic, place, reader),
-            None => Ok(Value::Error(ErrorKind::Na)),
-        }
+        let Some(place) = place_of(&self.servers, &topic.server) else {
+            return Ok(Value::Error(ErrorKind::Na));
+        };
+        let id = self.connect_topic(topic, place)?;
+        let value = self.value_at(topic, id)?;
+        self.note_reader(topic, id, reader)?;
+        Ok(value)
     }
 
-    /// Connects a topic of the server at a place, and answers its value, which this cell reads.
-    fn read_new(&mut self, topic: &Topic, place: usize, reader: Cell) -> Result<Value, Memory>
+    /// Connects a topic of the server at a place, in the recalculation that runs.
+    fn connect_topic(&mut self, topic: &Topic, place: usize) -> Result<u64, Memory>
         requires running { self.old.is_running ≡ true }
         requires new { id_of self.old.table.topics topic.now ≡ None }
         requires place { position (has_name topic.now.server) self.old.servers ≡ Some place }
-        ensures value { IfOk result (λ value. value
-            ≡ rtd_snapshot (rtd_of S.state self.old) topic.now) }
+        ensures running { self.new.is_running ≡ true }
+        ensures connected { IfOk result (λ id. id_of self.new.table.topics topic.now ≡ Some id) }
         ensures values { KeepsValues (source_of (rtd_of S.state self.old))
             (source_of (rtd_of S.state self.new)) }
-        ensures noted { OnOk result (NotesReader (source_of (rtd_of S.state self.old))
-            (source_of (rtd_of S.state self.new)) topic.now reader) }
-        ensures refused { OnErr result (KeepsReaders (source_of (rtd_of S.state self.old))
-            (source_of (rtd_of S.state self.new))) }
+        ensures readers { KeepsReaders (source_of (rtd_of S.state self.old))
+            (source_of (rtd_of S.state self.new)) }
     {
         let copy = topic.copy()?;
+        self.table.facts();
         let id = self.table.reserve()?;
         let strings = topic.strings.as_slice();
         let value = connect_at(&mut self.servers, place, &topic.server, id, strings)?;
-        let Ok(kept) = value.copy() else {
-            disconnect(&mut self.servers, &topic.server, id);
-            return Err(Memory);
-        };
-        add_topic(&mut self.table, copy, kept, self.round, reader);
-        Ok(value)
+        add_topic(&mut self.table, copy, value, self.round);
+        Ok(id)
     }
 }
 
-/// Adds a topic with its first reader, where there is room.
-fn add_topic(table: &mut Topics, topic: Topic, value: Value, round: u64, reader: Cell)
+/// Adds a topic without readers, where there is room.
+fn add_topic(table: &mut Topics, topic: Topic, value: Value, round: u64)
     requires new { id_of table.old.topics topic ≡ None }
     requires room { 0 < table.old.room }
     ensures topics { table.new.topics ≡ table.old.topics ++ (record {
@@ -463,15 +461,10 @@ fn add_topic(table: &mut Topics, topic: Topic, value: Value, round: u64, reader:
         value = value;
         round = round
     }) ∷ [] }
-    ensures greatest { table.new.greatest ≡ table.old.greatest + 1 }
     ensures readers { KeepsTableReaders table.old table.new }
-    ensures running { (q : ℕ) (cell : OneCell) → has_read table.new q cell
-        ≡ ((nat_eq (table.old.greatest + 1) q && same_cell cell reader)
-        || has_read table.old q cell) }
+    ensures running { KeepsRunning table.old table.new }
 {
-    if let Ok(id) = table.connect(topic, value, round) {
-        let _ = table.read_by(id, reader);
-    }
+    let _ = table.connect(topic, value, round);
 }
 
 /// Puts a server at the end, where there is room.
