@@ -30,7 +30,7 @@ use Rattle.rtd_topics.proofs.ServerLists.{both-found, both-new, equal_names, its
 use Rattle.rtd_topics.proofs.TableFacts.{all-found, found-passes, turned}
 use Rattle.rtd_topics.proofs.Views.{current-kept}
 use Rattle.topic_source.specs.Source.{KeepsValues}
-use Rattle.topic_table.specs.Table.{ConnectedTopic, KeepsReaders, TableState, has_read, has_reader, id_of, topic_at}
+use Rattle.topic_table.specs.Table.{ConnectedTopic, KeepsReaders, Readings, TableState, has_read, has_reader, id_of, topic_at}
 
 -- what holds of an Ok holds where it is one
 pub on-ok : {X Y P : Type 0} (r : Result X Y) → IsOk r → OnOk r P → P
@@ -172,27 +172,35 @@ linked-connected {S} state ks ks' table table' round t absent connects came read
     names-turned : (a b : List ℕ) → bytes_eq a b ≡ bytes_eq b a
     names-turned a b = search (rules)
 
--- the values stay where a topic is connected in the recalculation that runs
-pub values-connected : {S : Type 0} (state : S → ServerState) (p p' : RtdParts S) (t : ConnectedTopic) → p.is_running ≡ true → t.round ≡ p.round
-    → ConnectsAt state p.servers p'.servers t.topic.server t.id t.topic.strings t.value → p'.table.topics ≡ p.table.topics ++ t ∷ [] → p'.round ≡ p.round → p'.is_running ≡ p.is_running
-    → KeepsValues (source_of (rtd_of state p)) (source_of (rtd_of state p'))
-values-connected {S} state p p' t running at-round connects came round run =
-    let q : ConnectedTopic → Bool = λ (x : ConnectedTopic). not (is_of_round p.is_running p.round x) in
-    let left : q t ≡ false = ap (λ b. not (b && nat_eq p.round t.round)) running ∙ ap (λ n. not (nat_eq p.round n)) at-round ∙ ap not (itself-number p.round) in
-    let kept : filter q p'.table.topics ≡ filter q p.table.topics =
-      ap (filter q) came ∙ filter-append q p.table.topics (t ∷ []) ∙ ap (λ b. filter q p.table.topics ++ cond b (t ∷ []) []) left ∙ append-nil (filter q p.table.topics) in
-    let opening : (topic : Topic) → opening_of state p'.servers topic ≡ opening_of state p.servers topic =
-      opening-kept state (ConnectsServer state t.topic.server t.id t.topic.strings t.value) p.servers p'.servers connects.each (opening-connects state t.topic.server t.id t.topic.strings t.value) in
-    let taken : filter (λ (x : ConnectedTopic). not (is_of_round p'.is_running p'.round x)) p'.table.topics ≡ filter q p.table.topics =
-      (λ i. filter (λ (x : ConnectedTopic). not (is_of_round (run i) (round i) x)) p'.table.topics) ∙ kept in
+-- the values stay where the names, what was at the opening and the taken topics do
+pub values-by : {S : Type 0} (state : S → ServerState) (p p' : RtdParts S) → map known_of p'.servers ≡ map known_of p.servers → ((topic : Topic) → opening_of state p'.servers topic ≡ opening_of state p.servers topic)
+    → filter (λ (x : ConnectedTopic). not (is_of_round p'.is_running p'.round x)) p'.table.topics ≡ filter (λ (x : ConnectedTopic). not (is_of_round p.is_running p.round x)) p.table.topics
+    → p'.is_running ≡ p.is_running → KeepsValues (source_of (rtd_of state p)) (source_of (rtd_of state p'))
+values-by {S} state p p' known opening taken run =
+    let opened : opening_of state p'.servers ≡ opening_of state p.servers = λ i. λ topic. opening topic i in
     record {
       snapshot = λ i. λ topic. unwrap_or (lookup (same_topic topic) (map with_value (taken i)))
-        (unwrap_or (option_and_then (λ (o : Topic → Option Value). o topic) (cond (run i) (Some (λ x. opening x i)) None)) (values.Error errors.Na));
-      served = λ i. λ topic. is_some (cond (run i) (Some (λ x. opening x i)) None) && knows_topic (connects.known i) topic;
+        (unwrap_or (option_and_then (λ (o : Topic → Option Value). o topic) (cond (run i) (Some (opened i)) None)) (values.Error errors.Na));
+      served = λ i. λ topic. is_some (cond (run i) (Some (opened i)) None) && knows_topic (known i) topic;
     }
+
+-- the taken topics stay where a topic is connected in the recalculation that runs
+pub taken-connected : (run : Bool) (round : ℕ) (topics topics' : List ConnectedTopic) (t : ConnectedTopic) → run ≡ true → t.round ≡ round → topics' ≡ topics ++ t ∷ []
+    → filter (λ (x : ConnectedTopic). not (is_of_round run round x)) topics' ≡ filter (λ (x : ConnectedTopic). not (is_of_round run round x)) topics
+taken-connected run round topics topics' t running at-round came =
+    let q : ConnectedTopic → Bool = λ (x : ConnectedTopic). not (is_of_round run round x) in
+    let left : q t ≡ false = ap (λ b. not (b && nat_eq round t.round)) running ∙ ap (λ n. not (nat_eq round n)) at-round ∙ ap not (itself-number round) in
+    ap (filter q) came ∙ filter-append q topics (t ∷ []) ∙ ap (λ b. filter q topics ++ cond b (t ∷ []) []) left ∙ append-nil (filter q topics)
   where
     itself-number : (n : ℕ) → nat_eq n n ≡ true
     itself-number n = search (rules)
+
+-- the readers stay where the readings do
+pub kept-readings : (table table' : TableState) → table'.readings ≡ table.readings → KeepsReaders table table'
+kept-readings table table' same id cell = ap (λ (rs : List (ℕ × Readings)). is_among (option_map_or (λ (r : Readings). r.kept) (lookup (nat_eq id) rs) []) cell) same
+
+pub running-readings : (table table' : TableState) → table'.readings ≡ table.readings → (id : ℕ) (cell : Cell) → has_read table' id cell ≡ has_read table id cell
+running-readings table table' same id cell = ap (λ (rs : List (ℕ × Readings)). is_among (option_map_or (λ (r : Readings). r.running) (lookup (nat_eq id) rs) []) cell) same
 
 -- the readers stay where a topic is connected
 pub readers-came : (has has' : ℕ → Cell → Bool) (topics topics' : List ConnectedTopic) (t : ConnectedTopic) → topics' ≡ topics ++ t ∷ [] → id_of topics t.topic ≡ None
