@@ -1,5 +1,5 @@
 -- What a recalculation gets of topics, and who reads which.
-use Rattle.std.specs.Prelude.{◌≡◌, pos, Bool, false, ◌&&◌, ◌||◌, Option, None, List, []}
+use Rattle.std.specs.Prelude.{◌≡◌, ℕ, pos, Bool, false, ◌&&◌, ◌||◌, Option, None, List, []}
 use Rattle.cell_refs.specs.declared.grid.Cell.{Cell}
 use Rattle.cell_refs.specs.Cell.{same_cell}
 use Rattle.cell_values.specs.declared.errors.ErrorKind.TheVariants as errors
@@ -22,6 +22,8 @@ pub record RtdStanding : Type 0 where
   pub opening : Option (Topic → Option Value)
   -- which cells read a topic in the last completed recalculation
   pub readers : Topic → Cell → Bool
+  -- the number of the last recalculation that began
+  pub round : ℕ
 
 -- without servers
 abbrev pub no_standing : RtdStanding
@@ -32,6 +34,7 @@ no_standing = record {
   throttle = record { interval = pos 2000; last = None };
   opening = None;
   readers = λ topic cell. false;
+  round = 0;
 }
 
 -- the value of each topic, whether a server serves it, whether a cell was noted as its reader, and what is kept beside
