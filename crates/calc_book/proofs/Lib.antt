@@ -2,6 +2,8 @@
 mod EditLaws
 mod SheetLaws
 mod SettleLaws
+mod Readings
+mod NotingLaws
 mod BeginningLists
 mod BeginningMeans
 mod BeginningLoops

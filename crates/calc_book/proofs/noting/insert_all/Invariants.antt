@@ -1,7 +1,7 @@
 use Rattle.std.proofs.Common.{◌≡◌, ◌||◌, take}
 use Rattle.cell_refs.specs.declared.grid.Cell.{Cell}
 use Rattle.cell_refs.specs.Cell.{is_among}
-use Rattle.calc_book.proofs.beginning.insert_all.Given as goal
+use Rattle.calc_book.proofs.noting.insert_all.Given as goal
 
 -- the cells so far are put in
 abbrev pub invariant-loop-cell : goal.invariant-loop-cell

@@ -1,7 +1,7 @@
 use Rattle.std.proofs.Common.{◌≡◌, ◌||◌}
 use Rattle.cell_refs.specs.declared.grid.Cell.{Cell}
 use Rattle.cell_refs.specs.Cell.{is_among}
-use Rattle.calc_book.proofs.beginning.copied.Given as goal
+use Rattle.calc_book.proofs.noting.copied.Given as goal
 
 -- each cell is copied or left
 abbrev pub invariant-loop-cell : goal.invariant-loop-cell
