@@ -1,0 +1,4 @@
+-- What the product means.
+pub mod RtdState
+-- What the crate's own functions keep.
+pub mod Parts
