@@ -151,10 +151,14 @@ notes-kept old mid new reader all notes same = record {
 
 -- ---- values that stay
 pub values-none : (source : SourceState) → KeepsValues source source
-values-none source = record { snapshot = refl; served = refl }
+values-none source = record { snapshot = refl; served = refl; standing = refl }
 
 pub values-then : (first second third : SourceState) → KeepsValues first second → KeepsValues second third → KeepsValues first third
-values-then first second third one other = record { snapshot = other.snapshot ∙ one.snapshot; served = other.served ∙ one.served }
+values-then first second third one other = record {
+  snapshot = other.snapshot ∙ one.snapshot;
+  served = other.served ∙ one.served;
+  standing = other.standing ∙ one.standing;
+}
 
 -- ---- the job
 nothing_noted : (a b c : Bool) → c ≡ ((a && (false && b)) || c)

@@ -9,7 +9,7 @@ use Rattle.cell_values.specs.declared.topics.Topic.{Topic}
 use Rattle.cell_values.specs.declared.values.Value.{Value}
 use Rattle.cell_values.specs.declared.values.Value.TheVariants as values
 use Rattle.cell_values.specs.Topic.{same_topic}
-use Rattle.topic_source.specs.Source.{SourceState}
+use Rattle.topic_source.specs.Source.{SourceState, no_standing}
 use Rattle.workbook.specs.declared.contents.Content.{Content}
 use Rattle.workbook.specs.Book.{IsInOrder, by_content, content_at, is_formula}
 use Rattle.calc_round.specs.Rounds.{is_unfinished}
@@ -41,4 +41,5 @@ echo_state readings = record {
   snapshot = λ topic. first_string topic.strings;
   is_served = λ topic. true;
   has_read = λ topic cell. list_any (λ e. same_topic e.0 topic && same_cell e.1 cell) readings;
+  standing = no_standing;
 }
