@@ -1,10 +1,11 @@
 -- What is kept of the parts of a host's state is kept of those after each command.
-use Rattle.std.proofs.Common.{◌≡◌, inl, inr, pos, ℕ, ◌+◌, ◌-◌, ◌<◌, Bool, true, false, not, ◌&&◌, ◌||◌, cond, List, [], ◌∷◌, ◌++◌, map, length, Option, Some, None, refl, ap, sym, subst, ◌∙◌, get_or}
+use Rattle.std.proofs.Common.{◌≡◌, inl, inr, ℤ, pos, negsuc, ℕ, ◌+◌, ◌-◌, ◌<◌, ◌≤◌, arith, Bool, true, false, not, ◌&&◌, ◌||◌, cond, List, [], ◌∷◌, ◌++◌, map, length, Option, Some, None, refl, ap, sym, subst, ◌∙◌, get_or}
 use Rattle.std.specs.BTreeMap.{insert_entry}
 use Rattle.std.specs.List.{AllPairs, IsDistinct, list_any}
 use Rattle.std.specs.Map.{keys_of, lookup, remove_entry}
 use Rattle.std.specs.Option.{is_some, option_map_or}
 use Rattle.std.specs.Str.{bytes_eq}
+use Rattle.std.proofs.lemmas.Bool.{leb-true}
 use Rattle.std.proofs.lemmas.List.Folds.{list_any-append}
 use Rattle.std.proofs.lemmas.Map.Entries.{length-keys_of}
 use Rattle.std.proofs.lemmas.Map.Keys.{IsDistinct-from_apart}
@@ -36,7 +37,7 @@ use Rattle.workbook.proofs.PublicLaws.{or_false}
 use Rattle.calc_book.specs.CalcState.{CalcState, calc_begin, calc_note, calc_settle, first_calc}
 use Rattle.calc_book.specs.declared.calc_books.CalcBook.{CalcBook}
 use Rattle.calc_book.specs.Keeping.{Answers, AtRest, Holds, InRound, IsAlikeNow, NotesCleanReaders, NotesReaders, ReadsInRound, is_forgotten}
-use Rattle.host_core.specs.Form.{IsMomentInForm}
+use Rattle.host_core.specs.Form.{IsIntervalInForm, IsMomentInForm}
 use Rattle.host_core.specs.HostKeeping.{Keeps, Recalculates, calc_of, listeners_as}
 use Rattle.host_core.specs.HostParts.{HostParts, first_parts, StandsFor, TopicsHold, is_known, round_setting, shown_setting, values_at}
 use Rattle.rtd_topics.specs.RtdState.{IsMoment, IsRtdState, RtdState, SameOpening, SameReaders, SameTopics, TakesRead, is_changed, reads_one, rtd_snapshot, source_of, standing_of, topics_changed, with_value_pulled}
@@ -47,6 +48,8 @@ use Rattle.host_core.proofs.TopicLists.{both_ways, counted_alike, first_of_two, 
 use Rattle.host_core.proofs.TopicPull.{news, parts_pulled, pulled, topics-pulled}
 use Rattle.host_core.proofs.TopicRounds.{alike-begun, noted-begun, parts_done, topics-done}
 use Rattle.host_core.proofs.TopicSteps.{among_readers, found_listed, lookup-topics_with, names_with_flag, reader_among, readers_among, some_listed, topics-begun, topics-edited, topics-published, topics-renamed, topics-served}
+use mir.Syntax.{w64}
+use mir.Val.{SFits}
 
 -- ---- changed cells
 -- one more cell, or several
@@ -451,6 +454,11 @@ kept-first answer calc r events rest servers published taken throttle opening re
 pub moment_in_form : (moment : Moment) → IsMomentInForm moment → IsMoment moment
 moment_in_form (moments.At moment) h = h
 moment_in_form moments.Force h = tt
+
+-- an interval in form fits its 64 bits
+pub interval_fits : (interval : ℤ) → IsIntervalInForm interval → SFits w64 interval
+interval_fits (pos n) form = let small : n ≤ 2147483647 = leb-true n 2147483647 form.1 in omega arith
+interval_fits (negsuc n) form = let small : n ≤ 0 = leb-true n 0 form.0 in omega arith
 
 -- ---- listeners
 -- each listener has one more event
