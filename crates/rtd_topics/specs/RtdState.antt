@@ -12,7 +12,7 @@ use Rattle.cell_values.specs.SameValue.{same_value}
 use Rattle.cell_values.specs.Topic.{same_topic}
 use Rattle.throttle.specs.declared.pacing.Due.{Due as Pace}
 use Rattle.throttle.specs.declared.pacing.Due.TheVariants as paces
-use Rattle.topic_source.specs.Source.{RtdStanding, SourceState}
+use Rattle.topic_source.specs.Source.{SourceState}
 use Rattle.throttle.specs.declared.limits.TheConstants.{MAX_MOMENT}
 use Rattle.workbook.specs.declared.commands.Moment.{Moment}
 use Rattle.workbook.specs.declared.commands.Moment.TheVariants as moments
@@ -47,25 +47,12 @@ abbrev pub rtd_snapshot : RtdState → Topic → Value
 rtd_snapshot s topic =
     unwrap_or (lookup (same_topic topic) s.taken) (unwrap_or (option_and_then (λ (opening : Topic → Option Value). opening topic) s.opening) not_available)
 
--- what stays as it is while a recalculation reads topics
-abbrev pub standing_of : RtdState → RtdStanding
-standing_of s = record {
-  servers = s.servers;
-  published = s.published;
-  taken = s.taken;
-  throttle = s.throttle;
-  opening = s.opening;
-  readers = s.readers;
-  round = s.round;
-}
-
 -- what a recalculation gets of its topics: they are served where it runs and the server is known
 abbrev pub source_of : RtdState → SourceState
 source_of s = record {
   snapshot = rtd_snapshot s;
   is_served = λ topic. is_some s.opening && knows_topic s.servers topic;
   has_read = s.reading;
-  standing = standing_of s;
 }
 
 -- what holds of each state: no server is known twice; something is published, read and taken of known servers alone; no
