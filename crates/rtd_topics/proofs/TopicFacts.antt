@@ -22,10 +22,10 @@ use Rattle.rtd_topics.proofs.TableFacts.{all-found, found-passes}
 use Rattle.topic_table.specs.Table.{ConnectedTopic, id_of, topic_at}
 
 -- what holds of each pair holds of the first with the others, and among the others
-first-pairs : {X : Type 0} (R : X → X → Type 0) (x : X) (xs : List X) → AllPairs R (x ∷ xs) → All (R x) xs
+pub first-pairs : {X : Type 0} (R : X → X → Type 0) (x : X) (xs : List X) → AllPairs R (x ∷ xs) → All (R x) xs
 first-pairs R x xs pairs = λ k d below. pairs 0 (suc k) d (omega arith) (omega arith)
 
-other-pairs : {X : Type 0} (R : X → X → Type 0) (x : X) (xs : List X) → AllPairs R (x ∷ xs) → AllPairs R xs
+pub other-pairs : {X : Type 0} (R : X → X → Type 0) (x : X) (xs : List X) → AllPairs R (x ∷ xs) → AllPairs R xs
 other-pairs R x xs pairs = λ i j d less below. pairs (suc i) (suc j) d (omega arith) (omega arith)
 
 -- ids that rise
@@ -149,3 +149,55 @@ id-absent topics topic e = at (find (λ (y : ConnectedTopic). same_topic topic y
 -- where one is found it has its id
 pub id-of : (topics : List ConnectedTopic) (topic : Topic) (t : ConnectedTopic) → find (λ (y : ConnectedTopic). same_topic topic y.topic) topics ≡ Some t → id_of topics topic ≡ Some t.id
 id-of topics topic t e = ap (option_map (λ (y : ConnectedTopic). y.id)) e
+
+-- a topic that is under an id is found as itself
+pub find-at : (topics : List ConnectedTopic) → StandOnce topics → (topic : Topic) (q : ℕ) (t : ConnectedTopic) → topic_at topics q ≡ Some t → same_topic topic t.topic ≡ true
+    → find (λ (y : ConnectedTopic). same_topic topic y.topic) topics ≡ Some t
+find-at [] once topic q t at same = absurd (cc at)
+find-at (x ∷ xs) once topic q t at same =
+    find_step (nat_eq q x.id) (same_topic topic x.topic) x t (topic_at xs q) (find (λ (y : ConnectedTopic). same_topic topic y.topic) xs)
+      (λ last. ap (λ (y : ConnectedTopic). same_topic topic y.topic) last ∙ same)
+      (λ here there. absurd (cc (sym (same-other topic x.topic t.topic here same)
+        ∙ all-found (λ (y : ConnectedTopic). same_topic x.topic y.topic ≡ false) (λ (y : ConnectedTopic). nat_eq q y.id) xs t (first-pairs (λ (a b : ConnectedTopic). same_topic a.topic b.topic ≡ false) x xs once) there)))
+      (λ there. find-at xs (other-pairs (λ (a b : ConnectedTopic). same_topic a.topic b.topic ≡ false) x xs once) topic q t there same) at
+  where
+    find_step : (b c : Bool) (x t : ConnectedTopic) (o p : Option ConnectedTopic) → (x ≡ t → c ≡ true) → (c ≡ true → o ≡ Some t → cond c (Some x) p ≡ Some t) → (o ≡ Some t → p ≡ Some t)
+        → cond b (Some x) o ≡ Some t → cond c (Some x) p ≡ Some t
+    find_step true true x t o p first differ rest e = e
+    find_step true false x t o p first differ rest e = absurd (cc (first (one x t e)))
+    find_step false true x t o p first differ rest e = differ refl e
+    find_step false false x t o p first differ rest e = rest e
+
+-- a topic has a cell where it is found
+pub has-true : (has : ℕ → Cell → Bool) (topics : List ConnectedTopic) (topic : Topic) (cell : Cell) → topic_has has topics topic cell ≡ true
+    → (t : ConnectedTopic) × ((find (λ (y : ConnectedTopic). same_topic topic y.topic) topics ≡ Some t) × (has t.id cell ≡ true))
+has-true has topics topic cell e = at (find (λ (y : ConnectedTopic). same_topic topic y.topic) topics) refl e
+  where
+    at : (o : Option ConnectedTopic) → find (λ (y : ConnectedTopic). same_topic topic y.topic) topics ≡ o → option_map_or (λ (id : ℕ). has id cell) (option_map (λ (y : ConnectedTopic). y.id) o) false ≡ true
+        → (t : ConnectedTopic) × ((find (λ (y : ConnectedTopic). same_topic topic y.topic) topics ≡ Some t) × (has t.id cell ≡ true))
+    at None is e = absurd (cc e)
+    at (Some t) is e = (t, (is, e))
+
+pub has-from : (has : ℕ → Cell → Bool) (topics : List ConnectedTopic) (topic : Topic) (cell : Cell) (t : ConnectedTopic) → find (λ (y : ConnectedTopic). same_topic topic y.topic) topics ≡ Some t → has t.id cell ≡ true
+    → topic_has has topics topic cell ≡ true
+has-from has topics topic cell t found e = ap (λ (o : Option ConnectedTopic). option_map_or (λ (id : ℕ). has id cell) (option_map (λ (y : ConnectedTopic). y.id) o) false) found ∙ e
+
+-- two tests that hold together are one
+pub both-ways : (a b : Bool) → (a ≡ true → b ≡ true) → (b ≡ true → a ≡ true) → a ≡ b
+both-ways true b f g = sym (f refl)
+both-ways false true f g = g refl
+both-ways false false f g = refl
+
+-- what topics have stays where those that have it stay, and no topic comes
+pub has-same : (has has' : ℕ → Cell → Bool) (topics topics' : List ConnectedTopic) → Rises topics → StandOnce topics → Rises topics' → StandOnce topics'
+    → ((q : ℕ) (cell : Cell) → has' q cell ≡ has q cell) → ((q : ℕ) (t : ConnectedTopic) → topic_at topics' q ≡ Some t → topic_at topics q ≡ Some t)
+    → ((q : ℕ) (t : ConnectedTopic) (cell : Cell) → has q cell ≡ true → topic_at topics q ≡ Some t → topic_at topics' q ≡ Some t)
+    → (topic : Topic) (cell : Cell) → topic_has has' topics' topic cell ≡ topic_has has topics topic cell
+has-same has has' topics topics' rises once rises' once' same among kept topic cell =
+    both-ways (topic_has has' topics' topic cell) (topic_has has topics topic cell)
+      (λ e. let x = has-true has' topics' topic cell e in
+        let p : ConnectedTopic → Bool = λ (y : ConnectedTopic). same_topic topic y.topic in
+        has-from has topics topic cell x.0 (find-at topics once topic x.0.id x.0 (among x.0.id x.0 (at-self topics' rises' p x.0 x.1.0)) (found-equal topic topics' x.0 x.1.0)) (sym (same x.0.id cell) ∙ x.1.1))
+      (λ e. let x = has-true has topics topic cell e in
+        let p : ConnectedTopic → Bool = λ (y : ConnectedTopic). same_topic topic y.topic in
+        has-from has' topics' topic cell x.0 (find-at topics' once' topic x.0.id x.0 (kept x.0.id x.0 cell x.1.1 (at-self topics rises p x.0 x.1.0)) (found-equal topic topics x.0 x.1.0)) (same x.0.id cell ∙ x.1.1))

@@ -1,6 +1,7 @@
 //! All that a host keeps of real-time data: the known servers, the connected topics, and the throttle.
 #![tactic(auto)]
 
+mod leaving;
 mod pulls;
 mod servers;
 mod sources;

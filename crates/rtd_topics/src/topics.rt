@@ -7,9 +7,10 @@ ghost use Rattle.cell_values.specs.Topic.{same_topic};
 ghost use Rattle.rtd_topics.specs.Parts.{rtd_of};
 ghost use Rattle.rtd_topics.specs.RtdState.{IsRtdState, RunsNone, RunsRound, SameOpening, SamePublished, SameReaders, SameRtd, SameTopics, TakesRead, due_as, reads_one, rtd_snapshot, topics_changed};
 
+use super::leaving::{disconnect_since, disconnect_unread};
 use super::pulls::{changed_ids, readers_of, take_all};
 use super::servers::{
-    connect_at, copy_texts, disconnect, gather_all, is_any_flagged, open_all, publish_at,
+    connect_at, copy_texts, gather_all, is_any_flagged, open_all, publish_at,
     raise_flag,
 };
 use cell_refs::Cell;
@@ -310,11 +311,11 @@ impl<S: RtdServer + Drop> RtdTopics<S> {
             ≡ (rtd_of S.state self.old).reading topic cell }
         ensures round { (rtd_of S.state self.new).round ≡ (rtd_of S.state self.old).round }
     {
+        self.table.facts();
         self.is_running = false;
         self.table.keep_round();
-        while let Some((topic, id)) = self.table.pop_unread() {
-            disconnect(&mut self.servers, &topic.server, id);
-        }
+        disconnect_unread(&mut self.servers, &mut self.table);
+        self.table.facts();
     }
 
     /// The recalculation that runs ends, and nothing of it is taken; the topics that were connected in it are
@@ -334,9 +335,7 @@ impl<S: RtdServer + Drop> RtdTopics<S> {
     {
         self.is_running = false;
         self.table.drop_round();
-        while let Some((topic, id)) = self.table.pop_since(self.round) {
-            disconnect(&mut self.servers, &topic.server, id);
-        }
+        disconnect_since(&mut self.servers, &mut self.table, self.round);
     }
 }
 
