@@ -187,7 +187,7 @@ popped-leaves (Some o) old new p rises first out = (leaves-found old new p o.0 o
 pub popped-passes : (r : Option (Topic × ℕ)) (old new : TableState) (p : ConnectedTopic → Bool) → Rises old.topics → r ≡ option_map leaving (find p old.topics) → IfSome r (λ (out : Topic × ℕ). TakesOut old new out.1)
     → IfSome r (λ (out : Topic × ℕ). (t : ConnectedTopic) → topic_at old.topics out.1 ≡ Some t → p t ≡ true)
 popped-passes None old new p rises first out = tt
-popped-passes (Some o) old new p rises first out t at =
+popped-passes (Some o) old new p rises first out = λ t at.
     let x = leaves-found old new p o.0 o.1 rises first out in
     ap p (one t x.0 (sym at ∙ ap (topic_at old.topics) (sym (left-id x)) ∙ at-self old.topics rises p x.0 x.1.0)) ∙ found-passes p old.topics x.0 x.1.0
   where
@@ -203,7 +203,7 @@ popped-passes (Some o) old new p rises first out t at =
 pub popped-unread : (r : Option (Topic × ℕ)) (table : TableState) → IfSome r (λ (out : Topic × ℕ). (t : ConnectedTopic) → topic_at table.topics out.1 ≡ Some t → is_no_cell (readers_of table t.id) ≡ true)
     → IfSome r (λ (out : Topic × ℕ). (t : ConnectedTopic) × (topic_at table.topics out.1 ≡ Some t)) → IfSome r (λ (out : Topic × ℕ). (cell : Cell) → has_reader table out.1 cell ≡ false)
 popped-unread None table none there = tt
-popped-unread (Some o) table none there cell = unread-left table o.1 there.0 there.1 (none there.0 there.1) cell
+popped-unread (Some o) table none there = λ cell. unread-left table o.1 there.0 there.1 (none there.0 there.1) cell
 
 -- where one leaves, it was there
 pub leaves-there : (r : Option (Topic × ℕ)) (old new : TableState) → IfSome r (λ (out : Topic × ℕ). Leaves old new out.0 out.1) → IfSome r (λ (out : Topic × ℕ). (t : ConnectedTopic) × (topic_at old.topics out.1 ≡ Some t))
