@@ -1,26 +1,36 @@
 -- Lists of cells with the same cells, and what is reached and followed over them.
 use Rattle.std.proofs.Common.{◌≡◌, ℕ, zero, suc, Bool, true, false, cond, ◌||◌, ◌&&◌, List, [], ◌∷◌, ⊎_elim, inl, inr, refl, ap, sym, ◌∙◌}
 use Rattle.std.specs.List.{AllByRecursion, IsDistinct, filter, list_any}
-use Rattle.std.proofs.lemmas.Bool.{or_cases, or_left, or_right}
+use Rattle.std.proofs.lemmas.Bool.{and_from, and_parts, false_from_ne_true, or_cases, or_left, or_right}
 use Rattle.std.proofs.lemmas.Map.Keys.{IsDistinct-head, IsDistinct-tail, IsDistinct-cons}
 use Rattle.book_sync.specs.Following.{ShowsWhereClean, TableFollows}
+use Rattle.calc_book.specs.Begun.{AreBoth}
 use Rattle.calc_book.specs.CalcState.{CalcState}
 use Rattle.calc_book.specs.Keeping.{Answers, AtRest, InRound}
 use Rattle.calc_book.specs.declared.calc_books.CalcBook.{CalcBook}
+use Rattle.calc_round.specs.Rounds.{topic_setting}
 use Rattle.cell_refs.specs.declared.areas.Area.{Area}
 use Rattle.cell_refs.specs.declared.grid.Cell.{Cell}
 use Rattle.cell_refs.specs.Cell.{is_among, same_cell}
 use Rattle.cell_refs.specs.Reaching.{Reaches, reaches}
 use Rattle.cell_refs.proofs.PublicLaws.{same_cell_is}
 use Rattle.cell_store.specs.Store.{StoreState}
+use Rattle.cell_values.specs.declared.topics.Topic.{Topic}
+use Rattle.cell_values.specs.declared.values.Value.{Value}
 use Rattle.workbook.specs.declared.contents.Content.{Content}
-use Rattle.workbook.specs.Book.{IsInOrder, cell_precedents, formula_count, is_formula}
+use Rattle.workbook.specs.Agreement.{IsAlikeBesideChanged}
+use Rattle.workbook.specs.Book.{IsInOrder, cell_precedents, content_at, formula_count, is_formula}
+use Rattle.workbook.specs.Meaning.{Setting}
 use Rattle.workbook.specs.Stale.{is_stale}
 use Rattle.workbook.proofs.PublicLaws.{any_alike, any_leads, reaches-among, reaches-constant, reaches-enough}
 
 -- lists with the same cells
 abbrev pub AreAlike : List Cell → List Cell → Type 0
 AreAlike cells same = (q : Cell) → is_among cells q ≡ is_among same q
+
+-- the cells of a list are among those of another
+abbrev pub AreWithin : List Cell → List Cell → Type 0
+AreWithin cells more = (q : Cell) → is_among cells q ≡ true → is_among more q ≡ true
 
 -- ---- what is reached
 pub reaches-alike : (names : Cell → List Cell) (targets same : List Cell) → AreAlike targets same → (n : ℕ) (q : Cell) → reaches names targets n q ≡ reaches names same n q
@@ -50,6 +60,44 @@ unreached book ordered changed q unchanged fresh r = elim (is_formula book q) as
   | false ↦ λ constant. not_both (is_among changed q) (sym (reaches-constant book changed r.0 q constant) ∙ r.1) unchanged
 ] refl
 
+-- where more is changed more is reached, and more is stale
+pub reaches-more : (names : Cell → List Cell) (targets more : List Cell) → AreWithin targets more → (n : ℕ) (q : Cell) → reaches names targets n q ≡ true → reaches names more n q ≡ true
+reaches-more names targets more within zero q h = within q h
+reaches-more names targets more within (suc n) q h =
+    ⊎_elim (λ here. or_left (is_among more q) _ (within q here))
+    (λ later. or_right (is_among more q) _ (any_leads _ _ (reaches-more names targets more within n) (names q) later))
+    (or_cases (is_among targets q) _ h)
+
+stale-more : (book : List (Cell × Content)) (changed more : List Cell) → AreWithin changed more → (q : Cell) → is_stale book more q ≡ false → is_stale book changed q ≡ false
+stale-more book changed more within q fresh = elim (is_stale book changed q) as (λ b. is_stale book changed q ≡ b → b ≡ false) [
+  | true ↦ λ h.
+      let parts = and_parts (is_formula book q) _ h in
+      absurd (not_both (is_stale book more q) (and_from _ _ parts.0 (reaches-more (cell_precedents book) changed more within (formula_count book) q parts.1)) fresh)
+  | false ↦ λ _. refl
+] refl
+
+-- a setting is alike to itself
+pub alike-itself : (setting : Setting) (before now : List (Cell × Content)) (changed : List Cell) → ((q : Cell) → is_among changed q ≡ false → content_at before q ≡ content_at now q)
+    → IsAlikeBesideChanged setting setting before now changed
+alike-itself setting before now changed kept = record {
+  contents = kept;
+  answer = refl;
+  formulas = λ q tree is fresh. record {
+    registered = λ k d below. refl;
+    accepted = λ site some within. refl;
+    topics = λ topic reads. refl;
+  };
+}
+
+-- what is alike beside what is changed is so where more is changed
+pub alike-more : (earlier later : Setting) (before now : List (Cell × Content)) (changed more : List Cell) → AreWithin changed more
+    → IsAlikeBesideChanged earlier later before now changed → IsAlikeBesideChanged earlier later before now more
+alike-more earlier later before now changed more within alike = record {
+  contents = λ q none. alike.contents q (false_from_ne_true (is_among changed q) (λ here. not_both (is_among more q) (within q here) none));
+  answer = alike.answer;
+  formulas = λ q tree is fresh. alike.formulas q tree is (stale-more now changed more within q fresh);
+}
+
 -- ---- what is stale, followed and shown
 pub stale-alike : (book : List (Cell × Content)) (changed same : List Cell) → AreAlike changed same → (q : Cell) → is_stale book changed q ≡ is_stale book same q
 stale-alike book changed same alike q = ap (λ b. is_formula book q && b) (reaches-alike (cell_precedents book) changed same alike (formula_count book) q)
@@ -60,6 +108,15 @@ table-alike book changed same table alike follows q none = follows q (alike q �
 pub shows-alike : (book : List (Cell × Content)) (changed same : List Cell) (store : StoreState) → AreAlike changed same → ShowsWhereClean book changed store → ShowsWhereClean book same store
 shows-alike book changed same store alike clean q =
     ⊎_elim (λ h. inl h) (λ r. inr (r.0, sym (reaches-alike (cell_precedents book) changed same alike r.0 q) ∙ r.1)) (clean q)
+
+-- the stale and the changed cells, where the marks are the stale ones
+pub forgotten-cells : (book same : List (Cell × Content)) (keys changed marks both : List Cell) → book ≡ same → AreAlike keys changed
+    → ((q : Cell) → is_among marks q ≡ is_stale book keys q) → AreBoth marks keys both
+    → (q : Cell) → is_among both q ≡ (is_stale same changed q || is_among changed q)
+forgotten-cells book same keys changed marks both is alike marked are q =
+    are q
+    ∙ ap (λ b. b || is_among keys q) (marked q ∙ ap (λ es. is_stale es keys q) is ∙ stale-alike same keys changed alike q)
+    ∙ ap (λ b. is_stale same changed q || b) (alike q)
 
 -- ---- of the changed cells of a state it matters alone which they are
 pub rest-alike : (answer : Answers) (b : CalcBook) (s : CalcState) (same : List Cell) → AreAlike s.changed same → AtRest answer b s → AtRest answer b (record s { changed = same })
@@ -78,8 +135,8 @@ rest-alike answer b s same alike rest = record {
   others = λ q none. rest.others q (alike q ∙ none);
 }
 
-pub round-alike : (answer : Answers) (b : CalcBook) (s : CalcState) (same : List Cell) → AreAlike s.changed same → InRound answer b s → InRound answer b (record s { changed = same })
-round-alike answer b s same alike round = record {
+pub round-alike : (answer : Answers) (now : Topic → Value) (b : CalcBook) (s : CalcState) (same : List Cell) → AreAlike s.changed same → InRound answer now b s → InRound answer now b (record s { changed = same })
+round-alike answer now b s same alike round = record {
   holds = record {
     book = round.holds.book;
     plain = round.holds.plain;
@@ -92,6 +149,8 @@ round-alike answer b s same alike round = record {
   table = round.table;
   marked = λ q. round.marked q ∙ stale-alike s.book s.changed same alike q;
   working = round.working;
+  clean = shows-alike s.book s.changed same b.store alike round.clean;
+  alike = alike-more (topic_setting answer s.snapshot) (topic_setting answer now) s.completed s.book s.changed same (λ q h. sym (alike q) ∙ h) round.alike;
 }
 
 -- ---- cells that are filtered

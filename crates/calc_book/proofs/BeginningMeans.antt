@@ -4,9 +4,9 @@ use Rattle.std.specs.Option.{is_some, option_map, unwrap_or}
 use Rattle.std.proofs.lemmas.Bool.{or_cases, or_left, or_right, and_parts, and_from}
 use Rattle.book_sync.specs.Following.{FollowsChanged, ShowsWhereClean, TableFollows, present_by_content}
 use Rattle.calc_book.specs.Begun.{IsRewound, names_itself}
-use Rattle.calc_book.specs.Keeping.{Answers, shown_in}
+use Rattle.calc_book.specs.Keeping.{shown_in}
 use Rattle.calc_book.proofs.BeginningLists.{among-filter, distinct-filter, unreached}
-use Rattle.calc_round.specs.Rounds.{IsWorking, PresentMeans, is_unfinished, quiet_setting}
+use Rattle.calc_round.specs.Rounds.{IsWorking, PresentMeans, is_unfinished}
 use Rattle.cell_chain.specs.CellOrder.{CellOrder, IsCellChain, entries_among}
 use Rattle.cell_chain.proofs.PublicLaws.{among-entries_among}
 use Rattle.cell_refs.specs.declared.areas.Area.{Area}
@@ -23,26 +23,27 @@ use Rattle.dep_table.proofs.PublicLaws.{precedents-lies_in}
 use Rattle.formula_parse.specs.Tree.{areas_named, precedents}
 use Rattle.workbook.specs.declared.contents.Content.{Content}
 use Rattle.workbook.specs.declared.contents.Content.TheVariants as contents
+use Rattle.workbook.specs.Agreement.{IsAlikeBesideChanged}
 use Rattle.workbook.specs.Book.{IsInOrder, by_content, cell_precedents, content_at, content_precedents, formula_count, has_formula, is_formula}
 use Rattle.workbook.specs.Circular.{is_circular, walks_on}
 use Rattle.workbook.specs.Evaluation as evaluation
 use Rattle.workbook.specs.Evaluation.{answer_of}
 use Rattle.workbook.specs.Meaning.{Setting, Meaning, Val, Circ, Asks, Open, content_meaning, is_open, meaning, meaning_of_answer, shown_value, value_in, world_at}
 use Rattle.workbook.specs.Stale.{is_stale}
-use Rattle.workbook.proofs.PublicLaws.{circular_or_valued, meaning-kept_clean, meaning-unfolds, reaches-among, walks-formula}
+use Rattle.workbook.proofs.PublicLaws.{circular_or_valued, meaning-unfolds, meaning_between, reaches-among, walks-formula}
 use Rattle.std.specs.List.{IsDistinct, filter, list_any}
 
 not_both : (b : Bool) → b ≡ true → b ≡ false → ⊥
 not_both b h k = let e : true ≡ false = sym h ∙ k in cc
 
 -- a cell is stale, else changed, or neither
-three : (P : Type 0) (stale changed : Bool) → (stale ≡ true → P) → (stale ≡ false → changed ≡ true → P) → (stale ≡ false → changed ≡ false → P) → P
+pub three : (P : Type 0) (stale changed : Bool) → (stale ≡ true → P) → (stale ≡ false → changed ≡ true → P) → (stale ≡ false → changed ≡ false → P) → P
 three P true changed f g h = f refl
 three P false true f g h = g refl refl
 three P false false f g h = h refl refl
 
 -- ---- what a content shows
-shown-some : (m : Meaning) (o : Option Content) → is_some (option_map (λ content. shown_value m) o) ≡ is_some o
+pub shown-some : (m : Meaning) (o : Option Content) → is_some (option_map (λ content. shown_value m) o) ≡ is_some o
 shown-some m None = refl
 shown-some m (Some content) = refl
 
@@ -59,6 +60,15 @@ shown-value m (Some content) v h = value-shown m v h
 shown-lacks : (m : Meaning) (o : Option Content) → has_no_value (option_map (λ content. shown_value m) o) ≡ true → (v : Value) → m ≡ Val v → ⊥
 shown-lacks m None h v is = cc
 shown-lacks m (Some content) h v is = let e : false ≡ true = ap (λ n. has_no_value (Some (shown_value n))) (sym is) ∙ h in cc
+
+-- what is neither changed nor stale is shown as it means now
+pub clean-shown : (earlier later : Setting) (completed book : List (Cell × Content)) (changed : List Cell) → IsInOrder completed → IsInOrder book
+    → IsAlikeBesideChanged earlier later completed book changed → (store : StoreState) → ((q : Cell) → shown_at store q ≡ shown_in earlier completed q)
+    → (q : Cell) → is_stale book changed q ≡ false → is_among changed q ≡ false → shown_at store q ≡ shown_in later book q
+clean-shown earlier later completed book changed completed_ordered ordered alike store shown q fresh unchanged =
+    shown q
+    ∙ ap (λ m. option_map (λ content. shown_value m) (content_at completed q)) (meaning_between earlier later completed book changed completed_ordered ordered alike q unchanged fresh)
+    ∙ ap (option_map (λ content. shown_value (meaning later book q))) (alike.contents q unchanged)
 
 -- ---- what a content has present
 content-some : (o : Option Content) → is_some (present_by_content o) ≡ is_some o
@@ -135,38 +145,37 @@ module _ (book : List (Cell × Content)) (ordered : IsInOrder book) where
   constant-means setting cell constant = meaning-unfolds setting book ordered cell (constant-walks cell constant)
 
   -- a cell that means no value is circular, where no name is registered
-  valueless-circular : (answer : Answers) (cell : Cell) → ((v : Value) → meaning (quiet_setting answer) book cell ≡ Val v → ⊥) → is_circular book cell ≡ true
-  valueless-circular answer cell lacks = elim (is_circular book cell) as (λ b. is_circular book cell ≡ b → b ≡ true) [
+  valueless-circular : (setting : Setting) → ((name : List ℕ) → setting.registered name ≡ None) → (cell : Cell) → ((v : Value) → meaning setting book cell ≡ Val v → ⊥) → is_circular book cell ≡ true
+  valueless-circular setting none cell lacks = elim (is_circular book cell) as (λ b. is_circular book cell ≡ b → b ≡ true) [
     | true ↦ λ _. refl
     | false ↦ λ acyclic. absurd (⊎_elim
-        (λ circ. content-acyclic (quiet_setting answer) cell (meaning (quiet_setting answer) book) (content_at book cell) (sym (meaning-unfolds (quiet_setting answer) book ordered cell acyclic) ∙ circ))
+        (λ circ. content-acyclic setting cell (meaning setting book) (content_at book cell) (sym (meaning-unfolds setting book ordered cell acyclic) ∙ circ))
         (λ valued. lacks valued.0 valued.1)
-        (circular_or_valued (quiet_setting answer) (λ name. refl) book cell))
+        (circular_or_valued setting none book cell))
   ] refl
 
   -- ---- a store that follows the book
   module _
-      (answer : Answers)
+      (earlier later : Setting)
+      (none : (name : List ℕ) → later.registered name ≡ None)
       (completed : List (Cell × Content))
       (changed : List Cell)
       (before now : StoreState)
       (completed_ordered : IsInOrder completed)
-      (shown : (q : Cell) → shown_at before q ≡ shown_in (quiet_setting answer) completed q)
+      (shown : (q : Cell) → shown_at before q ≡ shown_in earlier completed q)
       (clean : ShowsWhereClean book changed before)
-      (same : (q : Cell) → is_among changed q ≡ false → content_at completed q ≡ content_at book q)
+      (alike : IsAlikeBesideChanged earlier later completed book changed)
       (kept : (q : Cell) → is_among changed q ≡ false → is_stale book changed q ≡ false → present_at now q ≡ present_at before q)
       (follows : FollowsChanged book changed now)
       (stale : (q : Cell) → is_stale book changed q ≡ true → present_at now q ≡ Some None)
     where
       -- what is neither changed nor stale is present as it is shown, which is what it means now
       clean-present : (q : Cell) → is_stale book changed q ≡ false → is_among changed q ≡ false
-          → present_at now q ≡ option_map (λ content. shown_value (meaning (quiet_setting answer) book q)) (content_at book q)
+          → present_at now q ≡ option_map (λ content. shown_value (meaning later book q)) (content_at book q)
       clean-present q fresh unchanged =
           kept q unchanged fresh
-          ∙ ⊎_elim (λ alike. alike) (λ r. absurd (unreached book ordered changed q unchanged fresh r)) (clean q)
-          ∙ shown q
-          ∙ ap (λ m. option_map (λ content. shown_value m) (content_at completed q)) (meaning-kept_clean (quiet_setting answer) completed book changed completed_ordered ordered same q unchanged fresh)
-          ∙ ap (option_map (λ content. shown_value (meaning (quiet_setting answer) book q))) (same q unchanged)
+          ∙ ⊎_elim (λ same. same) (λ r. absurd (unreached book ordered changed q unchanged fresh r)) (clean q)
+          ∙ clean-shown earlier later completed book changed completed_ordered ordered alike before shown q fresh unchanged
 
       stale-formula : (q : Cell) → is_stale book changed q ≡ true → is_formula book q ≡ true
       stale-formula q h = (and_parts (is_formula book q) _ h).0
@@ -177,17 +186,17 @@ module _ (book : List (Cell × Content)) (ordered : IsInOrder book) where
           (λ fresh here. ap is_some (follows q here) ∙ content-some (content_at book q))
           (λ fresh unchanged. ap is_some (clean-present q fresh unchanged) ∙ shown-some _ (content_at book q))
 
-      value-present : (q : Cell) (v : Value) → present_at now q ≡ Some (Some v) → meaning (quiet_setting answer) book q ≡ Val v
+      value-present : (q : Cell) (v : Value) → present_at now q ≡ Some (Some v) → meaning later book q ≡ Val v
       value-present q v is = three _ (is_stale book changed q) (is_among changed q)
           (λ h. let e : Some None ≡ Some (Some v) = sym (stale q h) ∙ is in cc)
           (λ fresh here.
           let by = sym (follows q here) ∙ is in
-          constant-means (quiet_setting answer) q (present-constant (content_at book q) v by) ∙ constant-present (quiet_setting answer) q (meaning (quiet_setting answer) book) (content_at book q) v by)
+          constant-means later q (present-constant (content_at book q) v by) ∙ constant-present later q (meaning later book) (content_at book q) v by)
           (λ fresh unchanged. shown-value _ (content_at book q) v (sym (clean-present q fresh unchanged) ∙ is))
 
       -- what is clean and has no value yet means none
       clean-lacks : (q : Cell) → is_stale book changed q ≡ false → is_among changed q ≡ false → is_unfinished now q ≡ true
-          → (v : Value) → meaning (quiet_setting answer) book q ≡ Val v → ⊥
+          → (v : Value) → meaning later book q ≡ Val v → ⊥
       clean-lacks q fresh unchanged h = shown-lacks _ (content_at book q) (ap has_no_value (sym (clean-present q fresh unchanged)) ∙ h)
 
       changed-formula : (q : Cell) → is_among changed q ≡ true → is_unfinished now q ≡ true → is_formula book q ≡ true
@@ -200,11 +209,11 @@ module _ (book : List (Cell × Content)) (ordered : IsInOrder book) where
           (λ fresh unchanged. elim (is_formula book q) as (λ b. is_formula book q ≡ b → b ≡ true) [
             | true ↦ λ _. refl
             | false ↦ λ constant.
-                let valued = constant-valued (quiet_setting answer) q (meaning (quiet_setting answer) book) (content_at book q) constant in
-                absurd (clean-lacks q fresh unchanged h valued.0 (constant-means (quiet_setting answer) q constant ∙ valued.1))
+                let valued = constant-valued later q (meaning later book) (content_at book q) constant in
+                absurd (clean-lacks q fresh unchanged h valued.0 (constant-means later q constant ∙ valued.1))
           ] refl)
 
-      pub followed-means : PresentMeans (quiet_setting answer) book now
+      pub followed-means : PresentMeans later book now
       followed-means = record { content = content-present; value = value-present; formula = formula-present }
 
       -- what has no value yet is circular or stale
@@ -212,7 +221,7 @@ module _ (book : List (Cell × Content)) (ordered : IsInOrder book) where
       followed-left q h = three _ (is_stale book changed q) (is_among changed q)
           (λ s. or_right (is_circular book q) _ s)
           (λ fresh here. or_right (is_circular book q) _ (and_from _ _ (changed-formula q here h) (reaches-among book ordered changed (formula_count book) q here)))
-          (λ fresh unchanged. or_left _ (is_stale book changed q) (valueless-circular answer q (clean-lacks q fresh unchanged h)))
+          (λ fresh unchanged. or_left _ (is_stale book changed q) (valueless-circular later none q (clean-lacks q fresh unchanged h)))
 
 -- ---- a cell that names itself
 walks-itself : (book : List (Cell × Content)) (cell : Cell) → is_formula book cell ≡ true → is_among (cell_precedents book cell) cell ≡ true → (n : ℕ) → walks_on book n cell ≡ true

@@ -1,28 +1,34 @@
 -- From a book that rests to the recalculation that begins, and back to rest where the begin is refused.
-use Rattle.std.proofs.Common.{◌≡◌, Bool, true, false, cond, ◌||◌, ◌&&◌, List, [], ◌++◌, ◌⊎◌, None, Some, Result, Ok, Err, OnOk, OnErr, ⊎_elim, inl, inr, refl, ap, sym, subst, ◌∙◌}
+use Rattle.std.proofs.Common.{◌≡◌, ℕ, zero, Bool, true, false, cond, ◌||◌, ◌&&◌, List, [], ◌++◌, ◌⊎◌, None, Some, Result, Ok, Err, IfOk, OnOk, OnErr, ⊎_elim, inl, inr, refl, ap, sym, subst, ◌∙◌}
 use Rattle.std.specs.Option.{is_some}
 use Rattle.std.specs.BTreeSet.{BTreeSet}
-use Rattle.std.proofs.lemmas.Bool.{or_right}
+use Rattle.std.proofs.lemmas.Bool.{or_left, or_right}
 use Rattle.std.proofs.lemmas.List.Folds.{list_any-append}
 use Rattle.book_sync.specs.Following.{FollowsChanged, ShowsWhereClean, TableFollows}
-use Rattle.calc_book.specs.Begun.{AreAllChanged, IsRewound}
+use Rattle.calc_book.specs.Begun.{AreAllChanged, AreBoth, IsRewound}
 use Rattle.calc_book.specs.CalcState.{CalcState, calc_begin}
-use Rattle.calc_book.specs.Keeping.{Answers, AtRest, InRound}
+use Rattle.calc_book.specs.Keeping.{Answers, AtRest, InRound, IsAlikeNow, NotesCleanReaders, ReadsInRound, is_forgotten}
 use Rattle.calc_book.specs.declared.calc_books.CalcBook.{CalcBook}
-use Rattle.calc_book.proofs.BeginningLists.{AreAlike, rest-alike, round-alike, shows-alike, table-alike}
+use Rattle.calc_book.proofs.BeginningLists.{AreAlike, AreWithin, alike-itself, alike-more, forgotten-cells, reaches-more, rest-alike, round-alike, shows-alike, table-alike}
 use Rattle.calc_book.proofs.BeginningMeans.{followed-left, followed-means, formula-some, marked-working, table-readers}
-use Rattle.calc_round.specs.Rounds.{PresentMeans, is_unfinished, quiet_setting}
+use Rattle.calc_book.proofs.Readings.{begun-reads}
+use Rattle.calc_round.specs.Rounds.{PresentMeans, is_unfinished, topic_setting}
 use Rattle.cell_chain.specs.CellOrder.{CellOrder}
 use Rattle.cell_refs.specs.declared.areas.Area.{Area}
 use Rattle.cell_refs.specs.declared.grid.Cell.{Cell}
 use Rattle.cell_refs.specs.Cell.{is_among}
+use Rattle.cell_refs.specs.Reaching.{Reaches}
 use Rattle.cell_store.specs.Gathering.{has_no_value}
-use Rattle.cell_store.specs.Store.{KeepsPresent, KeepsShown, StoreState, is_touched, present_at}
+use Rattle.cell_store.specs.Store.{KeepsPresent, KeepsShown, StoreState, is_touched, present_at, shown_at}
+use Rattle.cell_values.specs.declared.topics.Topic.{Topic}
+use Rattle.cell_values.specs.declared.values.Value.{Value}
 use Rattle.dep_table.specs.Table.{is_reader}
+use Rattle.topic_source.specs.Source.{SourceState}
 use Rattle.workbook.specs.declared.commands.BeginKind.{BeginKind}
 use Rattle.workbook.specs.declared.commands.BeginKind.TheVariants as kinds
 use Rattle.workbook.specs.declared.contents.Content.{Content}
-use Rattle.workbook.specs.Book.{content_at, formula_cells, formula_count, is_formula}
+use Rattle.workbook.specs.Agreement.{IsAlikeBesideChanged}
+use Rattle.workbook.specs.Book.{cell_precedents, content_at, formula_cells, formula_count, is_formula}
 use Rattle.workbook.specs.Circular.{is_circular}
 use Rattle.workbook.specs.Meaning.{Setting, Val, meaning}
 use Rattle.workbook.specs.Stale.{is_stale, reaches}
@@ -30,37 +36,53 @@ use Rattle.workbook.specs.Step.{changed_at_begin}
 use Rattle.workbook.proofs.PublicLaws.{formula_cells-has, reaches-among}
 
 -- ---- answers
-pub ok-leads : {E : Type 0} (r : Result (Unit {0}) E) (P Q : Type 0) → (P → Q) → OnOk r P → OnOk r Q
-ok-leads (Ok done) P Q leads h = leads h
+pub ok-leads : {A E : Type 0} (r : Result A E) (P Q : Type 0) → (P → Q) → OnOk r P → OnOk r Q
+ok-leads (Ok x) P Q leads h = leads h
 ok-leads (Err e) P Q leads h = tt
 
-pub ok-both : {E : Type 0} (r : Result (Unit {0}) E) (P P' Q : Type 0) → (P → P' → Q) → OnOk r P → OnOk r P' → OnOk r Q
-ok-both (Ok done) P P' Q leads h k = leads h k
+pub ok-both : {A E : Type 0} (r : Result A E) (P P' Q : Type 0) → (P → P' → Q) → OnOk r P → OnOk r P' → OnOk r Q
+ok-both (Ok x) P P' Q leads h k = leads h k
 ok-both (Err e) P P' Q leads h k = tt
 
-pub err-leads : {E : Type 0} (r : Result (Unit {0}) E) (P Q : Type 0) → (P → Q) → OnErr r P → OnErr r Q
-err-leads (Ok done) P Q leads h = tt
+pub if-on : {A E : Type 0} (r : Result A E) (R : Type 0) (P Q : A → Type 0) → (R → (x : A) → P x → Q x) → OnOk r R → IfOk r P → IfOk r Q
+if-on (Ok x) R P Q leads k h = leads k x h
+if-on (Err e) R P Q leads k h = tt
+
+pub if-both : {A E : Type 0} (r : Result A E) (R S : Type 0) (P Q : A → Type 0) → (R → S → (x : A) → P x → Q x) → OnOk r R → OnOk r S → IfOk r P → IfOk r Q
+if-both (Ok x) R S P Q leads k l h = leads k l x h
+if-both (Err e) R S P Q leads k l h = tt
+
+pub err-leads : {A E : Type 0} (r : Result A E) (P Q : Type 0) → (P → Q) → OnErr r P → OnErr r Q
+err-leads (Ok x) P Q leads h = tt
 err-leads (Err e) P Q leads h = leads h
 
-pub err-all : {E : Type 0} (r : Result (Unit {0}) E) (P P' P'' Q : Type 0) → (P → P' → P'' → Q) → OnErr r P → OnErr r P' → OnErr r P'' → OnErr r Q
-err-all (Ok done) P P' P'' Q leads h k l = tt
+pub err-all : {A E : Type 0} (r : Result A E) (P P' P'' Q : Type 0) → (P → P' → P'' → Q) → OnErr r P → OnErr r P' → OnErr r P'' → OnErr r Q
+err-all (Ok x) P P' P'' Q leads h k l = tt
 err-all (Err e) P P' P'' Q leads h k l = leads h k l
 
-pub err-anyway : {E : Type 0} (r : Result (Unit {0}) E) (P : Type 0) → P → OnErr r P
-err-anyway (Ok done) P h = tt
+pub err-anyway : {A E : Type 0} (r : Result A E) (P : Type 0) → P → OnErr r P
+err-anyway (Ok x) P h = tt
 err-anyway (Err e) P h = h
 
 -- ---- the state that a book stands for, by what the book has itself
-rest-own : (answer : Answers) (b : CalcBook) (s : CalcState) → AtRest answer b s → AtRest answer b (record { book = b.book.contents; changed = b.changed.keys; completed = s.completed })
+abbrev own_state : CalcBook → CalcState → CalcState
+own_state b s = record s { book = b.book.contents; changed = b.changed.keys }
+
+rest-own : (answer : Answers) (b : CalcBook) (s : CalcState) → AtRest answer b s → AtRest answer b (own_state b s)
 rest-own answer b s rest =
-    subst (λ book. AtRest answer b (record { book = book; changed = b.changed.keys; completed = s.completed })) (sym rest.holds.book)
+    subst (λ book. AtRest answer b (record s { book = book; changed = b.changed.keys })) (sym rest.holds.book)
     (rest-alike answer b s b.changed.keys (λ q. sym (rest.holds.changed q)) rest)
 
-round-of : (answer : Answers) (b : CalcBook) (s : CalcState) → b.book.contents ≡ s.book → AreAlike b.changed.keys s.changed
-    → InRound answer b (record { book = b.book.contents; changed = b.changed.keys; completed = s.completed }) → InRound answer b s
-round-of answer b s is alike round =
-    subst (λ book. InRound answer b (record { book = book; changed = s.changed; completed = s.completed })) is
-    (round-alike answer b (record { book = b.book.contents; changed = b.changed.keys; completed = s.completed }) s.changed alike round)
+alike-own : (answer : Answers) (now : Topic → Value) (b : CalcBook) (s : CalcState) → b.book.contents ≡ s.book → AreAlike b.changed.keys s.changed → IsAlikeNow answer now s → IsAlikeNow answer now (own_state b s)
+alike-own answer now b s is same alike =
+    subst (λ book. IsAlikeNow answer now (record s { book = book; changed = b.changed.keys })) (sym is)
+    (alike-more (topic_setting answer s.snapshot) (topic_setting answer now) s.completed s.book s.changed b.changed.keys (λ q h. same q ∙ h) alike)
+
+round-of : (answer : Answers) (now : Topic → Value) (b : CalcBook) (s : CalcState) → b.book.contents ≡ s.book → AreAlike b.changed.keys s.changed
+    → InRound answer now b (own_state b s) → InRound answer now b s
+round-of answer now b s is alike round =
+    subst (λ book. InRound answer now b (record s { book = book })) is
+    (round-alike answer now b (own_state b s) s.changed alike round)
 
 -- ---- which cells are changed at a begin
 pub changed-dirty : (kind : BeginKind) → kind ≡ kinds.Dirty → (book : List (Cell × Content)) (changed : List Cell) → changed ≡ changed_at_begin kind book changed
@@ -119,7 +141,7 @@ pub record HasCaughtUp (book : List (Cell × Content)) (keys : List Cell) (table
   pub touched : (q : Cell) → (is_among keys q ≡ true) ⊎ (is_stale book keys q ≡ true) → is_touched now q ≡ true
 
 module _ (answer : Answers) (b : CalcBook) (s : CalcState) (rest : AtRest answer b s) where
-  own : AtRest answer b (record { book = b.book.contents; changed = b.changed.keys; completed = s.completed })
+  own : AtRest answer b (own_state b s)
   own = rest-own answer b s rest
 
   -- what is present is shown where no changed cell is reached
@@ -148,17 +170,24 @@ module _ (answer : Answers) (b : CalcBook) (s : CalcState) (rest : AtRest answer
 
   -- ---- table, marks and store are in step with the book
   module _ (table : List (Cell × List Area)) (marks : List Cell) (store : StoreState) (up : HasCaughtUp b.book.contents b.changed.keys table marks b.store store) where
-    means : PresentMeans (quiet_setting answer) b.book.contents store
-    means = followed-means b.book.contents own.holds.ordered answer s.completed b.changed.keys b.store store
-        own.holds.completed own.holds.shown own.clean own.others up.others up.changed up.stale
+    -- what is present has its meaning in a setting in which what is clean stays as it is
+    module _ (setting : Setting) (none : (name : List ℕ) → setting.registered name ≡ None)
+        (alike : IsAlikeBesideChanged (topic_setting answer s.snapshot) setting s.completed b.book.contents b.changed.keys) where
+      means : PresentMeans setting b.book.contents store
+      means = followed-means b.book.contents own.holds.ordered (topic_setting answer s.snapshot) setting none s.completed b.changed.keys b.store store
+          own.holds.completed own.holds.shown own.clean alike up.others up.changed up.stale
 
-    left : (q : Cell) → is_unfinished store q ≡ true → (is_circular b.book.contents q || is_among marks q) ≡ true
-    left q h = ap (λ m. is_circular b.book.contents q || m) (up.marked q)
-        ∙ followed-left b.book.contents own.holds.ordered answer s.completed b.changed.keys b.store store
-        own.holds.completed own.holds.shown own.clean own.others up.others up.changed up.stale q h
+      left : (q : Cell) → is_unfinished store q ≡ true → (is_circular b.book.contents q || is_among marks q) ≡ true
+      left q h = ap (λ m. is_circular b.book.contents q || m) (up.marked q)
+          ∙ followed-left b.book.contents own.holds.ordered (topic_setting answer s.snapshot) setting none s.completed b.changed.keys b.store store
+          own.holds.completed own.holds.shown own.clean alike up.others up.changed up.stale q h
+
+    -- with the values of topics that were, nothing beside what is changed is otherwise
+    own-means : PresentMeans (topic_setting answer s.snapshot) b.book.contents store
+    own-means = means (topic_setting answer s.snapshot) (λ name. refl) (alike-itself (topic_setting answer s.snapshot) s.completed b.book.contents b.changed.keys own.others)
 
     marked-formula : (q : Cell) → is_among marks q ≡ true → is_formula b.book.contents q ≡ true
-    marked-formula q h = means.formula q (ap has_no_value (up.stale q (sym (up.marked q) ∙ h)))
+    marked-formula q h = own-means.formula q (ap has_no_value (up.stale q (sym (up.marked q) ∙ h)))
 
     -- what a begin of the stale cells needs
     pub marked-entries : (q : Cell) → is_among marks q ≡ true → is_among b.chain.entries q ≡ true
@@ -169,7 +198,7 @@ module _ (answer : Answers) (b : CalcBook) (s : CalcState) (rest : AtRest answer
     entries-readers q = table-readers b.book.contents table up.follows q ∙ sym (own.holds.chain q)
 
     pub entries-present : (q : Cell) → is_among b.chain.entries q ≡ true → is_some (present_at store q) ≡ true
-    entries-present q h = means.content q ∙ formula-some (content_at b.book.contents q) (sym (own.holds.chain q) ∙ h)
+    entries-present q h = own-means.content q ∙ formula-some (content_at b.book.contents q) (sym (own.holds.chain q) ∙ h)
 
     pub refused-rests : (keys : BTreeSet Cell) (after : List Cell) (chain : CellOrder) (last : StoreState)
         → keys.keys ≡ b.changed.keys → chain ≡ b.chain → KeepsPresent store last → KeepsShown store last
@@ -178,35 +207,55 @@ module _ (answer : Answers) (b : CalcBook) (s : CalcState) (rest : AtRest answer
         still-rests keys table after chain last same is up.again (λ q. shown q ∙ up.shown q)
         (λ q. ⊎_elim (λ alike. inl (present q ∙ alike ∙ sym (shown q))) (λ r. inr r) (up.clean own.clean q))
 
+    -- what is stale has no value yet
+    marked-empty : (q : Cell) → is_among marks q ≡ true → present_at store q ≡ Some None
+    marked-empty q h = up.stale q (sym (up.marked q) ∙ h)
+
     -- ---- the stale cells are due
-    pub dirty-begun : (kind : BeginKind) → kind ≡ kinds.Dirty → (chain : CellOrder) → IsRewound table marks b.chain chain
-        → InRound answer (record b { table = table; marks = marks; chain = chain; store = store }) (calc_begin s kind)
-    dirty-begun kind is chain rewound =
-        round-of answer (record b { table = table; marks = marks; chain = chain; store = store }) (calc_begin s kind) rest.holds.book
-        (λ q. rest.holds.changed q ∙ ap (λ ks. is_among ks q) (changed-dirty kind is s.book s.changed))
-        (record {
-          holds = record {
-            book = refl;
-            plain = own.holds.plain;
-            ordered = own.holds.ordered;
-            completed = own.holds.completed;
-            changed = λ q. refl;
-            chain = λ q. ap (λ cells. is_among cells q) rewound.entries ∙ own.holds.chain q;
-            shown = λ q. up.shown q ∙ own.holds.shown q;
-          };
-          table = up.follows;
-          marked = up.marked;
-          working = marked-working (quiet_setting answer) b.book.contents store table marks b.chain chain own.holds.ordered up.follows means rewound marked-entries
-              (λ q h. ap has_no_value (up.stale q (sym (up.marked q) ∙ h)))
-              (λ q h. up.touched q (inr (sym (up.marked q) ∙ h)))
-              left;
-        })
+    module _ (kind : BeginKind) (is : kind ≡ kinds.Dirty) (chain : CellOrder) (rewound : IsRewound table marks b.chain chain) where
+      abbrev begun_dirty : CalcBook
+      begun_dirty = record b { table = table; marks = marks; chain = chain; store = store }
+
+      dirty-alike : AreAlike b.changed.keys (changed_at_begin kind s.book s.changed)
+      dirty-alike q = rest.holds.changed q ∙ ap (λ ks. is_among ks q) (changed-dirty kind is s.book s.changed)
+
+      pub dirty-begun : (now : Topic → Value) → IsAlikeNow answer now s → InRound answer now begun_dirty (calc_begin s kind)
+      dirty-begun now alike =
+          let same = alike-own answer now b s rest.holds.book rest.holds.changed alike in
+          round-of answer now begun_dirty (calc_begin s kind) rest.holds.book dirty-alike
+          (record {
+            holds = record {
+              book = refl;
+              plain = own.holds.plain;
+              ordered = own.holds.ordered;
+              completed = own.holds.completed;
+              changed = λ q. refl;
+              chain = λ q. ap (λ cells. is_among cells q) rewound.entries ∙ own.holds.chain q;
+              shown = λ q. up.shown q ∙ own.holds.shown q;
+            };
+            table = up.follows;
+            marked = up.marked;
+            working = marked-working (topic_setting answer now) b.book.contents store table marks b.chain chain own.holds.ordered up.follows
+                (means (topic_setting answer now) (λ name. refl) same) rewound marked-entries
+                (λ q h. ap has_no_value (marked-empty q h))
+                (λ q h. up.touched q (inr (sym (up.marked q) ∙ h)))
+                (left (topic_setting answer now) (λ name. refl) same);
+            clean = up.clean own.clean;
+            alike = same;
+          })
+
+      pub dirty-reads : (source : SourceState) → IsAlikeNow answer source.snapshot s → NotesCleanReaders answer source (calc_begin s kind) → ReadsInRound answer source begun_dirty
+      dirty-reads source alike = begun-reads answer source begun_dirty (calc_begin s kind) (dirty-begun source.snapshot alike) marked-empty
+
+      pub dirty-forgotten : (both : List Cell) → AreBoth marks b.changed.keys both → (q : Cell) → is_among both q ≡ is_forgotten (calc_begin s kind) q
+      dirty-forgotten both are = forgotten-cells b.book.contents s.book b.changed.keys (changed_at_begin kind s.book s.changed) marks both rest.holds.book dirty-alike up.marked are
 
     -- ---- all formula cells are due
     module _ (keys : BTreeSet Cell) (after : List Cell) (chain : CellOrder) (last : StoreState)
-        (all : AreAllChanged b.chain.entries b.changed.keys keys.keys after store last) (shown : KeepsShown store last) (rewound : IsRewound table after b.chain chain) where
-      all-means : PresentMeans (quiet_setting answer) b.book.contents last
-      all-means = emptied-means (quiet_setting answer) b.book.contents b.chain.entries store last own.holds.chain all.present means
+        (all : AreAllChanged b.chain.entries b.changed.keys keys.keys after store last) (shown : KeepsShown store last) (rewound : IsRewound table after b.chain chain)
+        (kind : BeginKind) (is : (kind ≡ kinds.All) ⊎ (kind ≡ kinds.Rebuild)) where
+      abbrev begun_all : CalcBook
+      begun_all = record b { changed = keys; table = table; marks = after; chain = chain; store = last }
 
       all-stale : (q : Cell) → is_among after q ≡ is_stale b.book.contents keys.keys q
       all-stale q =
@@ -215,8 +264,8 @@ module _ (answer : Answers) (b : CalcBook) (s : CalcState) (rest : AtRest answer
           (λ formula. reaches-among b.book.contents own.holds.ordered keys.keys (formula_count b.book.contents) q
           (all.changed q ∙ or_right (is_among b.changed.keys q) _ (own.holds.chain q ∙ formula)))
 
-      all-alike : (kind : BeginKind) → (kind ≡ kinds.All) ⊎ (kind ≡ kinds.Rebuild) → AreAlike keys.keys (changed_at_begin kind s.book s.changed)
-      all-alike kind is q =
+      all-alike : AreAlike keys.keys (changed_at_begin kind s.book s.changed)
+      all-alike q =
           all.changed q
           ∙ ap (λ m. m || is_among b.chain.entries q) (rest.holds.changed q)
           ∙ ap (λ m. is_among s.changed q || m) (rest.holds.chain q)
@@ -225,10 +274,27 @@ module _ (answer : Answers) (b : CalcBook) (s : CalcState) (rest : AtRest answer
           ∙ sym (list_any-append _ (formula_cells s.book) s.changed)
           ∙ ap (λ ks. is_among ks q) (changed-all kind is s.book s.changed)
 
-      pub all-begun : (kind : BeginKind) → (kind ≡ kinds.All) ⊎ (kind ≡ kinds.Rebuild)
-          → InRound answer (record b { changed = keys; table = table; marks = after; chain = chain; store = last }) (calc_begin s kind)
-      all-begun kind is =
-          round-of answer (record b { changed = keys; table = table; marks = after; chain = chain; store = last }) (calc_begin s kind) rest.holds.book (all-alike kind is)
+      all-within : AreWithin b.changed.keys keys.keys
+      all-within q h = all.changed q ∙ or_left _ (is_among b.chain.entries q) h
+
+      all-empty : (q : Cell) → is_among after q ≡ true → present_at last q ≡ Some None
+      all-empty q h = all.present q ∙ ap (λ a. cond a (Some None) (present_at store q)) (sym (all.marked q) ∙ h)
+
+      all-clean : ShowsWhereClean b.book.contents keys.keys last
+      all-clean q = elim (is_among b.chain.entries q) as (λ a. is_among b.chain.entries q ≡ a → (present_at last q ≡ shown_at last q) ⊎ Reaches (cell_precedents b.book.contents) keys.keys q) [
+        | true ↦ λ e. inr (zero, all.changed q ∙ or_right (is_among b.changed.keys q) _ e)
+        | false ↦ λ e. ⊎_elim
+            (λ same. inl (all.present q ∙ ap (λ a. cond a (Some None) (present_at store q)) e ∙ same ∙ sym (shown q)))
+            (λ r. inr (r.0, reaches-more (cell_precedents b.book.contents) b.changed.keys keys.keys all-within r.0 q r.1))
+            (up.clean own.clean q)
+      ] refl
+
+      pub all-begun : (now : Topic → Value) → IsAlikeNow answer now s → InRound answer now begun_all (calc_begin s kind)
+      all-begun now alike =
+          let same = alike-own answer now b s rest.holds.book rest.holds.changed alike in
+          let there = emptied-means (topic_setting answer now) b.book.contents b.chain.entries store last own.holds.chain all.present
+          (means (topic_setting answer now) (λ name. refl) same) in
+          round-of answer now begun_all (calc_begin s kind) rest.holds.book all-alike
           (record {
             holds = record {
               book = refl;
@@ -241,9 +307,17 @@ module _ (answer : Answers) (b : CalcBook) (s : CalcState) (rest : AtRest answer
             };
             table = up.follows;
             marked = all-stale;
-            working = marked-working (quiet_setting answer) b.book.contents last table after b.chain chain own.holds.ordered up.follows all-means rewound
+            working = marked-working (topic_setting answer now) b.book.contents last table after b.chain chain own.holds.ordered up.follows there rewound
                 (λ q h. sym (all.marked q) ∙ h)
-                (λ q h. ap has_no_value (all.present q ∙ ap (λ a. cond a (Some None) (present_at store q)) (sym (all.marked q) ∙ h)))
+                (λ q h. ap has_no_value (all-empty q h))
                 (λ q h. all.touched q (sym (all.marked q) ∙ h))
-                (λ q h. or_right (is_circular b.book.contents q) _ (all.marked q ∙ own.holds.chain q ∙ all-means.formula q h));
+                (λ q h. or_right (is_circular b.book.contents q) _ (all.marked q ∙ own.holds.chain q ∙ there.formula q h));
+            clean = all-clean;
+            alike = alike-more (topic_setting answer s.snapshot) (topic_setting answer now) s.completed b.book.contents b.changed.keys keys.keys all-within same;
           })
+
+      pub all-reads : (source : SourceState) → IsAlikeNow answer source.snapshot s → NotesCleanReaders answer source (calc_begin s kind) → ReadsInRound answer source begun_all
+      all-reads source alike = begun-reads answer source begun_all (calc_begin s kind) (all-begun source.snapshot alike) all-empty
+
+      pub all-forgotten : (both : List Cell) → AreBoth after keys.keys both → (q : Cell) → is_among both q ≡ is_forgotten (calc_begin s kind) q
+      all-forgotten both are = forgotten-cells b.book.contents s.book keys.keys (changed_at_begin kind s.book s.changed) after both rest.holds.book all-alike all-stale are

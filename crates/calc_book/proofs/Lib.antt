@@ -2,6 +2,9 @@
 mod EditLaws
 mod SheetLaws
 mod SettleLaws
+mod Readings
+mod NotingLaws
+mod Samples
 mod BeginningLists
 mod BeginningMeans
 mod BeginningLoops

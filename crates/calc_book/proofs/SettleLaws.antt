@@ -1,5 +1,5 @@
 -- A recalculation that is worked out: what is shown then, and how many cells were stale.
-use Rattle.std.proofs.Common.{◌≡◌, Bool, true, false, cond, Option, None, Some, is_some, List, [], length, refl, ap, sym, subst, ◌∙◌, arith, inl}
+use Rattle.std.proofs.Common.{◌≡◌, Bool, true, false, cond, Option, None, Some, is_some, List, [], length, refl, ap, sym, subst, ◌∙◌, arith, ⊎_elim, inl, inr, zero}
 use Rattle.std.specs.List.{filter}
 use Rattle.std.specs.List.Sorted.{IsStrictlySortedBy}
 use Rattle.std.specs.Map.{keys_of}
@@ -12,15 +12,19 @@ use Rattle.std.proofs.lemmas.Map.Made.{IsDistinct-keys_filter, is_some-lookup, l
 use Rattle.calc_book.specs.declared.calc_books.CalcBook.{CalcBook}
 use Rattle.calc_book.specs.CalcState.{CalcState, calc_settle}
 use Rattle.calc_book.specs.Keeping.{Answers, AtRest, InRound, shown_in}
-use Rattle.calc_round.specs.Rounds.{HasSameCells, IsWorkedOut, quiet_setting}
-use Rattle.book_sync.specs.Following.{TableFollows}
+use Rattle.calc_book.proofs.BeginningLists.{unreached}
+use Rattle.calc_book.proofs.BeginningMeans.{clean-shown, three}
+use Rattle.calc_round.specs.Rounds.{HasSameCells, IsWorkedOut, IsWorking, KeepsFinished, PresentMeans, topic_setting}
+use Rattle.book_sync.specs.Following.{ShowsWhereClean, TableFollows}
 use Rattle.cell_refs.specs.declared.grid.Cell.{Cell}
 use Rattle.cell_refs.specs.Cell.{cell_cmp, is_among, same_cell}
 use Rattle.cell_refs.proofs.PublicLaws.{same_cell_is, same_cells}
 use Rattle.cell_store.specs.Gathering.{has_no_value}
 use Rattle.cell_store.specs.Store.{KeepsPresent, StoreState, present_at, shown_at}
+use Rattle.cell_values.specs.declared.topics.Topic.{Topic}
 use Rattle.cell_values.specs.declared.values.Value.{Value}
 use Rattle.workbook.specs.declared.contents.Content.{Content}
+use Rattle.workbook.specs.Agreement.{IsAlikeBesideChanged}
 use Rattle.workbook.specs.Book.{IsInOrder, content_at, formula_count, has_formula, is_formula}
 use Rattle.workbook.specs.Meaning.{Circ, Setting, meaning, meaning_within, shown_value}
 use Rattle.workbook.specs.Stale.{is_stale, reaches, stale_cells, stale_count}
@@ -74,11 +78,11 @@ module _ (setting : Setting) (book : List (Cell × Content)) (store : StoreState
       either (Some (Some v)) is (Some content) there = sym (ap (λ m. Some (shown_value m)) (out.means.value q v is))
 
 -- a recalculation that is worked out and completed, in which no cell is changed any more
-pub settled : (answer : Answers) (b b' : CalcBook) (s : CalcState) (out : StoreState) → InRound answer b s
-    → b'.book ≡ b.book → b'.table ≡ b.table → IsWorkedOut (quiet_setting answer) b.book.contents out → HasSameCells b.chain.entries b'.chain.entries
+pub settled : (answer : Answers) (now : Topic → Value) (b b' : CalcBook) (s : CalcState) (out : StoreState) → InRound answer now b s
+    → b'.book ≡ b.book → b'.table ≡ b.table → IsWorkedOut (topic_setting answer now) b.book.contents out → HasSameCells b.chain.entries b'.chain.entries
     → ((q : Cell) → shown_at b'.store q ≡ present_at out q) → KeepsPresent out b'.store → b'.changed.keys ≡ []
-    → AtRest answer b' (calc_settle s)
-settled answer b b' s out before book table worked cells shown present none = record {
+    → AtRest answer b' (calc_settle s now)
+settled answer now b b' s out before book table worked cells shown present none = record {
   holds = record {
     book = ap (λ k. k.contents) book ∙ before.holds.book;
     plain = ap (λ k. k.functions) book ∙ before.holds.plain;
@@ -86,9 +90,76 @@ settled answer b b' s out before book table worked cells shown present none = re
     completed = before.holds.ordered;
     changed = λ q. ap (λ ks. is_among ks q) none;
     chain = λ q. cells q ∙ before.holds.chain q;
-    shown = λ q. shown q ∙ worked-shown (quiet_setting answer) s.book out (subst (λ es. IsWorkedOut (quiet_setting answer) es out) before.holds.book worked) q;
+    shown = λ q. shown q ∙ worked-shown (topic_setting answer now) s.book out (subst (λ es. IsWorkedOut (topic_setting answer now) es out) before.holds.book worked) q;
   };
   table = subst (TableFollows s.book []) (sym table) before.table;
   clean = λ q. inl (present q ∙ sym (shown q));
   others = λ q _. refl;
+}
+
+-- ---- a recalculation that goes on, or is given up
+
+-- what is clean is still present as it is shown, where values came up and each is what its cell means
+still-clean : (earlier later : Setting) (completed book : List (Cell × Content)) (changed : List Cell) → IsInOrder completed → IsInOrder book
+    → IsAlikeBesideChanged earlier later completed book changed → (old new : StoreState) → ((q : Cell) → shown_at old q ≡ shown_in earlier completed q)
+    → KeepsFinished old new → PresentMeans later book new → ShowsWhereClean book changed old → ShowsWhereClean book changed new
+still-clean earlier later completed book changed completed_ordered ordered alike old new shown kept means clean q = three _ (is_stale book changed q) (is_among changed q)
+    (λ stale. inr (formula_count book, (and_parts (is_formula book q) _ stale).1))
+    (λ fresh here. inr (zero, here))
+    (λ fresh unchanged.
+    let was = clean-shown earlier later completed book changed completed_ordered ordered alike old shown q fresh unchanged in
+    let before = ⊎_elim (λ same. same) (λ r. absurd (unreached book ordered changed q unchanged fresh r)) (clean q) in
+    inl (still (present_at new q) refl (present_at old q) refl (content_at book q) refl (before ∙ was) ∙ sym was ∙ sym (kept.shown q)))
+  where
+    still : (p : Option (Option Value)) → present_at new q ≡ p → (p' : Option (Option Value)) → present_at old q ≡ p' → (o : Option Content) → content_at book q ≡ o
+        → p' ≡ option_map (λ content. shown_value (meaning later book q)) o → p ≡ option_map (λ content. shown_value (meaning later book q)) o
+    still None is p' is' None there same = refl
+    still None is p' is' (Some content) there same = absurd (let no : false ≡ true = ap is_some (sym is) ∙ means.content q ∙ ap is_some there in cc)
+    still (Some p) is p' is' None there same = absurd (let no : true ≡ false = ap is_some (sym is) ∙ means.content q ∙ ap is_some there in cc)
+    still (Some (Some v)) is p' is' (Some content) there same = sym (ap (λ m. Some (shown_value m)) (means.value q v is))
+    still (Some None) is None is' (Some content) there same = absurd (cc)
+    still (Some None) is (Some None) is' (Some content) there same = same
+    still (Some None) is (Some (Some v)) is' (Some content) there same = absurd (let no : Some None ≡ Some (Some v) = sym is ∙ kept.values q v is' in cc)
+
+-- a recalculation in which some values came up
+pub goes-on : (answer : Answers) (now : Topic → Value) (b b' : CalcBook) (s : CalcState) → InRound answer now b s
+    → b'.book ≡ b.book → b'.changed ≡ b.changed → b'.table ≡ b.table → b'.marks ≡ b.marks
+    → IsWorking (topic_setting answer now) b.book.contents b'.store b'.chain.entries b'.chain.due
+    → KeepsFinished b.store b'.store → HasSameCells b.chain.entries b'.chain.entries
+    → InRound answer now b' s
+goes-on answer now b b' s before book changed table marks working kept cells =
+    let works = subst (λ es. IsWorking (topic_setting answer now) es b'.store b'.chain.entries b'.chain.due) before.holds.book working in
+    record {
+      holds = record {
+        book = ap (λ k. k.contents) book ∙ before.holds.book;
+        plain = ap (λ k. k.functions) book ∙ before.holds.plain;
+        ordered = before.holds.ordered;
+        completed = before.holds.completed;
+        changed = λ q. ap (λ c. is_among c.keys q) changed ∙ before.holds.changed q;
+        chain = λ q. cells q ∙ before.holds.chain q;
+        shown = λ q. kept.shown q ∙ before.holds.shown q;
+      };
+      table = subst (TableFollows s.book []) (sym table) before.table;
+      marked = λ q. ap (λ m. is_among m q) marks ∙ before.marked q;
+      working = works;
+      clean = still-clean (topic_setting answer s.snapshot) (topic_setting answer now) s.completed s.book s.changed before.holds.completed before.holds.ordered before.alike
+          b.store b'.store before.holds.shown kept works.means before.clean;
+      alike = before.alike;
+    }
+
+-- a recalculation that is given up: nothing but the marks is otherwise
+pub given-up : (answer : Answers) (now : Topic → Value) (b : CalcBook) (marks : List Cell) (s : CalcState) → InRound answer now b s → AtRest answer (record b { marks = marks }) s
+given-up answer now b marks s round = record {
+  holds = record {
+    book = round.holds.book;
+    plain = round.holds.plain;
+    ordered = round.holds.ordered;
+    completed = round.holds.completed;
+    changed = round.holds.changed;
+    chain = round.holds.chain;
+    shown = round.holds.shown;
+  };
+  table = λ q _. round.table q refl;
+  clean = round.clean;
+  others = round.alike.contents;
 }

@@ -24,3 +24,8 @@ pub record AreAllChanged (cells before after marks : List Cell) (old new : Store
   pub marked : (cell : Cell) → is_among marks cell ≡ is_among cells cell
   pub present : (cell : Cell) → present_at new cell ≡ (if is_among cells cell then Some None else present_at old cell)
   pub touched : (cell : Cell) → is_among cells cell ≡ true → is_touched new cell ≡ true
+
+-- these cells are those of two lists
+abbrev pub AreBoth : List Cell → List Cell → List Cell → Type 0
+AreBoth one other both = (cell : Cell)
+    → is_among both cell ≡ (is_among one cell || is_among other cell)

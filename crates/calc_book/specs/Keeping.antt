@@ -1,17 +1,22 @@
 -- What a recalculating book keeps of the state that it stands for, at rest and in a recalculation.
-use Rattle.std.specs.Prelude.{◌≡◌, ℕ, false, Option, List, []}
+use Rattle.std.specs.Prelude.{◌≡◌, ℕ, Bool, false, not, ◌&&◌, ◌||◌, Option, List, []}
 use Rattle.std.specs.Option.{option_map}
 use Rattle.book_sync.specs.Following.{ShowsWhereClean, TableFollows}
 use Rattle.calc_book.specs.CalcState.{CalcState}
 use Rattle.calc_book.specs.declared.calc_books.CalcBook.{CalcBook}
-use Rattle.calc_round.specs.Rounds.{IsWorking, quiet_setting}
+use Rattle.calc_round.specs.Readings.{ReadsFollow}
+use Rattle.calc_round.specs.Rounds.{IsWorking, topic_setting}
 use Rattle.cell_refs.specs.declared.grid.Cell.{Cell}
 use Rattle.cell_refs.specs.Cell.{is_among}
 use Rattle.cell_store.specs.Store.{shown_at}
+use Rattle.cell_values.specs.declared.topics.Topic.{Topic}
 use Rattle.cell_values.specs.declared.values.Value.{Value}
+use Rattle.topic_source.specs.Source.{SourceState}
 use Rattle.workbook.specs.declared.contents.Content.{Content}
+use Rattle.workbook.specs.Agreement.{IsAlikeBesideChanged}
 use Rattle.workbook.specs.Book.{IsInOrder, content_at, is_formula}
 use Rattle.workbook.specs.Meaning.{Setting, meaning, shown_value}
+use Rattle.workbook.specs.Reads.{cell_reads}
 use Rattle.workbook.specs.Stale.{is_stale}
 
 -- what add-in functions answer
@@ -31,7 +36,8 @@ pub record Holds (answer : Answers) (b : CalcBook) (s : CalcState) : Type 0 wher
   pub completed : IsInOrder s.completed
   pub changed : (cell : Cell) → is_among b.changed.keys cell ≡ is_among s.changed cell
   pub chain : (cell : Cell) → is_among b.chain.entries cell ≡ is_formula s.book cell
-  pub shown : (cell : Cell) → shown_at b.store cell ≡ shown_in (quiet_setting answer) s.completed cell
+  pub shown : (cell : Cell) → shown_at b.store cell
+      ≡ shown_in (topic_setting answer s.snapshot) s.completed cell
 
 -- no recalculation runs: off the changed cells the table follows the book, which has there the contents of the last
 -- completed recalculation; and what doesn't reach a changed cell is present as it is shown
@@ -42,18 +48,53 @@ pub record AtRest (answer : Answers) (b : CalcBook) (s : CalcState) : Type 0 whe
   pub others : (cell : Cell) → is_among s.changed cell ≡ false
       → content_at s.completed cell ≡ content_at s.book cell
 
--- a recalculation runs: the table follows the book, the marks are the stale cells, what is present has its meaning, and
--- what has no value yet is due or circular
-pub record InRound (answer : Answers) (b : CalcBook) (s : CalcState) : Type 0 where
+-- where topics have these values now, all beside what is changed is as it was in the last completed recalculation
+abbrev pub IsAlikeNow : Answers → (Topic → Value) → CalcState → Type 0
+IsAlikeNow answer now s =
+    IsAlikeBesideChanged (topic_setting answer s.snapshot) (topic_setting answer now) s.completed s.book s.changed
+
+-- a recalculation runs, in which topics have the values now: the table follows the book, the marks are the stale cells,
+-- what is present has its meaning, and what has no value yet is due or circular; what doesn't reach a changed cell is
+-- present as it is shown, and is as it was
+pub record InRound (answer : Answers) (now : Topic → Value) (b : CalcBook) (s : CalcState)
+    : Type 0 where
   pub holds : Holds answer b s
   pub table : TableFollows s.book [] b.table
   pub marked : (cell : Cell) → is_among b.marks cell ≡ is_stale s.book s.changed cell
-  pub working : IsWorking (quiet_setting answer) s.book b.store b.chain.entries b.chain.due
+  pub working : IsWorking (topic_setting answer now) s.book b.store b.chain.entries b.chain.due
+  pub clean : ShowsWhereClean s.book s.changed b.store
+  pub alike : IsAlikeNow answer now s
 
+-- ---- who reads which topic
+-- whether a cell reads a topic that is served
+abbrev pub reads_served : Setting → List (Cell × Content) → SourceState → Topic → Cell → Bool
+reads_served setting book source topic cell = cell_reads setting book cell topic && source.is_served topic
+
+-- the source has noted who reads which served topic, and no more
+abbrev pub NotesReaders : Setting → List (Cell × Content) → SourceState → Type 0
+NotesReaders setting book source = (topic : Topic) (cell : Cell)
+    → source.has_read topic cell ≡ reads_served setting book source topic cell
+
+-- whether what a cell has read is forgotten at a begin: the cell is stale or changed
+abbrev pub is_forgotten : CalcState → Cell → Bool
+is_forgotten s cell = is_stale s.book s.changed cell || is_among s.changed cell
+
+-- the source has noted who read which served topic in the last completed recalculation, but of the forgotten cells nothing
+abbrev pub NotesCleanReaders : Answers → SourceState → CalcState → Type 0
+NotesCleanReaders answer source s = (topic : Topic) (cell : Cell)
+    → source.has_read topic cell
+    ≡ (reads_served (topic_setting answer s.snapshot) s.completed source topic cell
+    && not (is_forgotten s cell))
+
+-- in a recalculation: what the source has noted is read, and each cell that has a value has been noted
+abbrev pub ReadsInRound : Answers → SourceState → CalcBook → Type 0
+ReadsInRound answer source b = ReadsFollow answer source b.book.contents b.store
+
+-- ---- some state
 -- it stands for some state at rest
 abbrev pub Rests : CalcBook → Type 0
 Rests b = (answer : Answers) × (s : CalcState) × AtRest answer b s
 
--- it stands for some state in a recalculation
-abbrev pub Runs : Answers → CalcBook → Type 0
-Runs answer b = (s : CalcState) × InRound answer b s
+-- it stands for some state in a recalculation in which topics have these values
+abbrev pub Runs : Answers → (Topic → Value) → CalcBook → Type 0
+Runs answer now b = (s : CalcState) × InRound answer now b s

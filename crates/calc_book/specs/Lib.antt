@@ -4,3 +4,5 @@ pub mod CalcState
 pub mod Keeping
 pub mod Edits
 pub mod Begun
+pub mod Calling
+pub mod Samples

@@ -3,13 +3,14 @@
 ghost use Rattle.std.specs.Prelude.{◌≡◌, [], ◌⊎◌, true, false, not, ◌||◌, if◌then◌else◌, None, Some, is_some, IsTrue, IfOk, OnOk, OnErr};
 ghost use Rattle.std.specs.List.{IsDistinct, filter};
 ghost use Rattle.book_sync.specs.Following.{FollowsChanged, ShowsWhereClean, TableFollows};
-ghost use Rattle.calc_book.specs.Begun.{AreAllChanged, IsRewound, names_itself};
+ghost use Rattle.calc_book.specs.Begun.{AreAllChanged, AreBoth, IsRewound, names_itself};
 ghost use Rattle.cell_refs.specs.declared.grid.Cell.{Cell as OneCell};
 ghost use Rattle.cell_refs.specs.Cell.{is_among, same_cell};
 ghost use Rattle.cell_store.specs.Store.{KeepsPresent, KeepsShown, KeepsTouched, is_touched, present_at};
 ghost use Rattle.dep_table.specs.Table.{is_reader};
 ghost use Rattle.workbook.specs.Stale.{is_stale};
 
+use super::noting::widened;
 use book_sync::{follow, follow_anew};
 use cell_chain::CellChain;
 use cell_refs::Cell;
@@ -62,25 +63,29 @@ pub fn catch_up(
     }
 }
 
-/// Makes the marked cells due, but for those that name themselves. A refusal doesn't change the chain.
+/// Makes the marked cells due, but for those that name themselves, and answers the marked and the changed cells. A
+/// refusal doesn't change the chain.
 pub fn make_due(
     alloc: Global,
     table: &DepTable,
+    changed: &BTreeSet<Cell>,
     marks: &Marks,
     chain: &mut CellChain,
-) -> Result<(), Memory>
+) -> Result<Vec<Cell>, Memory>
     requires entries { (q : OneCell) → is_among marks.now q ≡ true
         → is_among chain.old.entries q ≡ true }
     ensures ok { OnOk result (IsRewound table.now marks.now chain.old chain.new) }
+    ensures cells { IfOk result (λ both. AreBoth marks.now changed.now.keys both.items) }
     ensures refused { OnErr result (chain.new ≡ chain.old) }
 {
+    let both = both_of(alloc, changed, marks)?;
     let due = due_cells(alloc, table, marks)?;
     chain.rewind(due.as_slice());
-    Ok(())
+    Ok(both)
 }
 
-/// Makes all cells of the chain changed, stale and due, but for those that name themselves. A refusal changes marks
-/// alone, and which cells are touched.
+/// Makes all cells of the chain changed, stale and due, but for those that name themselves, and answers the changed
+/// cells. A refusal changes marks alone, and which cells are touched.
 pub fn make_all_due(
     alloc: Global,
     table: &DepTable,
@@ -88,7 +93,7 @@ pub fn make_all_due(
     marks: &mut Marks,
     chain: &mut CellChain,
     store: &mut CellStore,
-) -> Result<(), Memory>
+) -> Result<Vec<Cell>, Memory>
     requires readers { (q : OneCell) → is_reader table.now q ≡ is_among chain.old.entries q }
     requires present { (q : OneCell) → is_among chain.old.entries q ≡ true
         → is_some (present_at store.old q) ≡ true }
@@ -96,6 +101,7 @@ pub fn make_all_due(
     ensures ok { OnOk result (AreAllChanged chain.old.entries changed.old.keys changed.new.keys
         marks.new store.old store.new) }
     ensures due { OnOk result (IsRewound table.now marks.new chain.old chain.new) }
+    ensures cells { IfOk result (λ both. AreBoth marks.new changed.new.keys both.items) }
     ensures same_changed { OnErr result (changed.new.keys ≡ changed.old.keys) }
     ensures same_chain { OnErr result (chain.new ≡ chain.old) }
     ensures same_present { OnErr result (KeepsPresent store.old store.new) }
@@ -106,13 +112,29 @@ pub fn make_all_due(
     let all = widened(alloc, changed, cells.as_slice())?;
     mark_all(table, cells.as_slice(), marks)?;
     touch_all(cells.as_slice(), store)?;
+    let both = both_of(alloc, &all, marks)?;
     let due = due_cells(alloc, table, marks)?;
 
     // Nothing is refused from here on.
     empty_all(cells.as_slice(), store);
     *changed = all;
     chain.rewind(due.as_slice());
-    Ok(())
+    Ok(both)
+}
+
+/// The marked and the changed cells, each once.
+fn both_of(alloc: Global, changed: &BTreeSet<Cell>, marks: &Marks) -> Result<Vec<Cell>, Memory>
+    ensures { IfOk result (λ both. AreBoth marks.now changed.now.keys both.items) }
+{
+    let Ok(mut both) = marks.list(alloc) else {
+        return Err(Memory);
+    };
+    for cell in changed {
+        if !marks.is_stale(*cell) {
+            both.push(*cell)?;
+        }
+    }
+    Ok(both)
 }
 
 /// The marked cells that don't name themselves.
@@ -149,43 +171,6 @@ fn names_itself(table: &DepTable, cell: Cell) -> bool
         .precedents(cell)
         .iter()
         .any(|area| area.contains(cell))
-}
-
-/// A set of the changed cells and of these.
-fn widened(
-    alloc: Global,
-    changed: &BTreeSet<Cell>,
-    cells: &[Cell],
-) -> Result<BTreeSet<Cell>, Memory>
-    ensures { IfOk result (λ all. (q : OneCell)
-        → is_among all.keys q ≡ (is_among changed.now.keys q || is_among cells.now q)) }
-{
-    let mut all = copied(alloc, changed)?;
-    insert_all(&mut all, cells)?;
-    Ok(all)
-}
-
-/// Another set of the same cells.
-fn copied(alloc: Global, cells: &BTreeSet<Cell>) -> Result<BTreeSet<Cell>, Memory>
-    ensures { IfOk result (λ all. (q : OneCell)
-        → is_among all.keys q ≡ is_among cells.now.keys q) }
-{
-    let mut all = BTreeSet::new(alloc);
-    for cell in cells {
-        all.insert(*cell)?;
-    }
-    Ok(all)
-}
-
-/// Puts cells into a set.
-fn insert_all(all: &mut BTreeSet<Cell>, cells: &[Cell]) -> Result<(), Memory>
-    ensures { OnOk result ((q : OneCell)
-        → is_among all.new.keys q ≡ (is_among all.old.keys q || is_among cells.now q)) }
-{
-    for cell in cells {
-        all.insert(*cell)?;
-    }
-    Ok(())
 }
 
 /// Marks readers and whatever names marked ones, and no other cell.

@@ -1,13 +1,22 @@
 ghost use Rattle.std.specs.Prelude.{◌≡◌, None, Some, IfOk, OnOk, OnErr, MatchResult};
-ghost use Rattle.calc_book.specs.CalcState.{CalcState, calc_begin, calc_clear, calc_set, calc_settle, first_calc};
-ghost use Rattle.calc_book.specs.Keeping.{Answers, AtRest, Holds, InRound, Rests, Runs};
-ghost use Rattle.calc_round.specs.Rounds.{quiet_setting};
+ghost use Rattle.calc_book.specs.CalcState.{CalcState, calc_begin, calc_clear, calc_note, calc_set, calc_settle, first_calc};
+ghost use Rattle.calc_book.specs.Keeping.{Answers, AtRest, Holds, InRound, IsAlikeNow, NotesCleanReaders, NotesReaders, ReadsInRound, Rests, Runs, is_forgotten};
+ghost use Rattle.calc_round.specs.Rounds.{topic_setting};
+ghost use Rattle.cell_refs.specs.Cell.{is_among};
+ghost use Rattle.cell_refs.specs.declared.grid.Cell.{Cell as OneCell};
+ghost use Rattle.cell_values.specs.declared.topics.Topic.{Topic as OneTopic};
+ghost use Rattle.cell_values.specs.declared.values.Value.{Value as OneValue};
+ghost use Rattle.formula_parse.specs.Tree.{has_rtd_call};
+ghost use Rattle.topic_source.specs.Source.{KeepsValues, SourceState};
 ghost use Rattle.workbook.specs.Book.{IsRefusal, exceeds_cells, exceeds_formulas, is_formula, limit_fault};
 ghost use Rattle.workbook.specs.Meaning.{sheet_of};
 ghost use Rattle.workbook.specs.Stale.{stale_count};
+ghost use Rattle.workbook.specs.Step.{formulas_where};
 
 use super::beginning::{catch_up, make_all_due, make_due};
+use super::calling::rtd_callers;
 use super::edits::{clear_content, set_content};
+use super::noting::note_all;
 use super::settling::evaluate;
 use addin_types::AddIns;
 use book_sync::what_follows_a_book_still_does_after_an_edit;
@@ -21,6 +30,7 @@ use std::alloc::Global;
 use std::collections::BTreeSet;
 use std::marker::Brand;
 use std::sync::ledger::Blank;
+use topic_source::TopicSource;
 use workbook::{BeginKind, Book, CELL_LIMIT, Content, FORMULA_LIMIT, SetFault};
 
 /// A book with what a recalculation needs beside it: the cells that were changed since the last completed one, the
@@ -100,11 +110,44 @@ impl CalcBook {
         clear_content(&mut self.book, &mut self.changed, &mut self.chain, cell)
     }
 
-    /// Begins a recalculation. A refusal changes nothing that shows.
-    pub fn begin(&mut self, kind: BeginKind) -> Result<(), Memory>
-        requires rest { Rests self.old }
+    /// Notes these cells as changed. A refusal changes nothing.
+    pub fn note_changed(&mut self, cells: &[Cell]) -> Result<(), Memory>
         ensures ok { (answer : Answers) (s : CalcState) → AtRest answer self.old s
-            → OnOk result (InRound answer self.new (calc_begin s kind)) }
+            → OnOk result (AtRest answer self.new (calc_note s cells.now)) }
+        ensures refused { (answer : Answers) (s : CalcState) → AtRest answer self.old s
+            → OnErr result (AtRest answer self.new s) }
+    {
+        note_all(self.alloc, &mut self.changed, cells)
+    }
+
+    /// Notes the formula cells with an RTD call as changed. A refusal changes nothing.
+    pub fn note_rtd_callers(&mut self) -> Result<(), Memory>
+        ensures ok { (answer : Answers) (s : CalcState) → AtRest answer self.old s
+            → OnOk result (AtRest answer self.new
+            (calc_note s (formulas_where s.book has_rtd_call))) }
+        ensures refused { (answer : Answers) (s : CalcState) → AtRest answer self.old s
+            → OnErr result (AtRest answer self.new s) }
+    {
+        let callers = rtd_callers(self.alloc, &self.book, &self.chain)?;
+        note_all(self.alloc, &mut self.changed, callers.as_slice())
+    }
+
+    /// Begins a recalculation, and answers the cells whose readings of topics are to be forgotten. A refusal changes
+    /// nothing that shows.
+    pub fn begin(&mut self, kind: BeginKind) -> Result<Vec<Cell>, Memory>
+        requires rest { Rests self.old }
+
+        // It runs with any values of topics with which the cells that reach no changed one stay as they are.
+        ensures ok { (answer : Answers) (s : CalcState) → AtRest answer self.old s
+            → OnOk result ((now : OneTopic → OneValue) → IsAlikeNow answer now s
+            → InRound answer now self.new (calc_begin s kind)) }
+        ensures reads { (answer : Answers) (s : CalcState) → AtRest answer self.old s
+            → OnOk result ((source : SourceState) → IsAlikeNow answer source.snapshot s
+            → NotesCleanReaders answer source (calc_begin s kind)
+            → ReadsInRound answer source self.new) }
+        ensures forgotten { (answer : Answers) (s : CalcState) → AtRest answer self.old s
+            → IfOk result (λ cells. (cell : OneCell)
+            → is_among cells.items cell ≡ is_forgotten (calc_begin s kind) cell) }
         ensures refused { (answer : Answers) (s : CalcState) → AtRest answer self.old s
             → OnErr result (AtRest answer self.new s) }
     {
@@ -118,7 +161,13 @@ impl CalcBook {
             &mut self.store,
         )?;
         match kind {
-            BeginKind::Dirty => make_due(self.alloc, &self.table, &self.marks, &mut self.chain),
+            BeginKind::Dirty => make_due(
+                self.alloc,
+                &self.table,
+                &self.changed,
+                &self.marks,
+                &mut self.chain,
+            ),
             BeginKind::All | BeginKind::Rebuild => make_all_due(
                 self.alloc,
                 &self.table,
@@ -131,20 +180,33 @@ impl CalcBook {
     }
 
     /// Completes the recalculation, and answers how many cells were stale. After a refusal it can be called again.
-    pub fn settle<F: AddIns>(&mut self, round: u64, addins: &F) -> Result<u64, Memory>
-        requires runs { Runs F.answer self.old }
-        ensures ok { (s : CalcState) → InRound F.answer self.old s
+    pub fn settle<F: AddIns, T: TopicSource>(
+        &mut self,
+        round: u64,
+        addins: &F,
+        topics: &mut T,
+    ) -> Result<u64, Memory>
+        requires runs { Runs F.answer (T.state topics.old).snapshot self.old }
+        requires reads { ReadsInRound F.answer (T.state topics.old) self.old }
+        ensures values { KeepsValues (T.state topics.old) (T.state topics.new) }
+        ensures ok { (s : CalcState) → InRound F.answer (T.state topics.old).snapshot self.old s
             → IfOk result (λ count. (count ≡ stale_count s.book s.changed)
-            × AtRest F.answer self.new (calc_settle s)) }
-        ensures refused { (s : CalcState) → InRound F.answer self.old s
-            → OnErr result (InRound F.answer self.new s) }
+            × AtRest F.answer self.new (calc_settle s (T.state topics.old).snapshot)) }
+        ensures read { (s : CalcState) → InRound F.answer (T.state topics.old).snapshot self.old s
+            → OnOk result (NotesReaders (topic_setting F.answer (T.state topics.old).snapshot)
+            s.book (T.state topics.new)) }
+        ensures refused { (s : CalcState)
+            → InRound F.answer (T.state topics.old).snapshot self.old s
+            → OnErr result (InRound F.answer (T.state topics.new).snapshot self.new s) }
+        ensures reads { OnErr result (ReadsInRound F.answer (T.state topics.new) self.new) }
     {
-        evaluate::<F, Brand>(
+        evaluate::<F, T, Brand>(
             self.alloc,
             Blank::new(1),
             round,
             &self.book,
             addins,
+            topics,
             &mut self.chain,
             &mut self.store,
         )?;
@@ -156,10 +218,20 @@ impl CalcBook {
         Ok(count as u64)
     }
 
+    /// Gives the recalculation up: the sheet shows what it showed, and the changed cells stay so. It takes no memory.
+    pub fn cancel(&mut self)
+        ensures { (answer : Answers) (now : OneTopic → OneValue) (s : CalcState)
+            → InRound answer now self.old s → AtRest answer self.new s }
+    {
+        // Cells that were evaluated are stale still, so that the next recalculation evaluates them again.
+        self.marks = Marks::new(self.alloc);
+    }
+
     /// What the sheet shows: the cells with content at the last completed recalculation, in cell order.
     pub fn sheet(&self) -> Result<Vec<(Cell, Option<Value>)>, Memory>
         ensures { (answer : Answers) (s : CalcState) → Holds answer self.now s
-            → IfOk result (λ sheet. sheet.items ≡ sheet_of (quiet_setting answer) s.completed) }
+            → IfOk result (λ sheet. sheet.items
+            ≡ sheet_of (topic_setting answer s.snapshot) s.completed) }
     {
         self.store.sheet(self.alloc)
     }

@@ -4,7 +4,9 @@
 
 mod beginning;
 mod calc_books;
+mod calling;
 mod edits;
+mod noting;
 mod settling;
 #[cfg(test)]
 mod tests;

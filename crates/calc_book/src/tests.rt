@@ -1,16 +1,17 @@
-ghost use Rattle.std.specs.Prelude.{IfOk, OnOk};
-ghost use Rattle.addin_types.specs.Samples.{sample_answer};
-ghost use Rattle.calc_book.specs.CalcState.{CalcState};
-ghost use Rattle.calc_book.specs.Keeping.{AtRest};
+ghost use Rattle.std.specs.Prelude.{◌≡◌, [], ◌∷◌, ◌++◌, not, IfOk, OnOk, OnErr, map};
+ghost use Rattle.std.specs.List.{filter};
+ghost use Rattle.calc_book.specs.Samples.{Stands, feed_state};
+ghost use Rattle.cell_refs.specs.Cell.{is_among};
 
-use super::CalcBook;
+use super::{CalcBook, Memory};
 use addin_types::SampleAddIns;
 use cell_refs::Cell;
-use cell_values::Value;
+use cell_values::{Topic, Value};
 use formula_parse::parse;
 use std::alloc::Global;
 use std::process::Abort;
 use std::test::Fail;
+use topic_source::TopicSource;
 use workbook::{BeginKind, Content};
 
 /// What is done at a row of the first column.
@@ -19,6 +20,12 @@ enum Edit {
     Number(i64),
     Formula(&'static str),
     Clear,
+    // Each topic gets this value, and its readers are noted.
+    Publish(i64),
+    // The callers of RTD are noted.
+    Server,
+    // A recalculation is begun and given up.
+    Cancel,
     Nothing,
 }
 
@@ -29,6 +36,42 @@ type Shown = &'static [(u32, Option<i64>)];
 /// rows in the order of the chain.
 type Step = (u32, Edit, Option<BeginKind>, u64, Shown, &'static [u32]);
 
+/// A source in which each topic has this value. It keeps each reading.
+#[derive(Drop)]
+struct Feed {
+    value: i64,
+    readings: Vec<(Topic, Cell)>,
+}
+
+impl TopicSource for Feed {
+    ghost state = { λ source. feed_state source.value source.readings.items };
+
+    fn read(&mut self, topic: &Topic, reader: Cell) -> Result<Value, Memory> {
+        let copy = topic.copy()?;
+        keep_reading(&mut self.readings, copy, reader)?;
+        Ok(Value::Num(self.value))
+    }
+}
+
+/// Puts a reading behind the others.
+fn keep_reading(readings: &mut Vec<(Topic, Cell)>, topic: Topic, reader: Cell) -> Result<(), Memory>
+    ensures ok { OnOk result
+        (readings.new.items ≡ readings.old.items ++ (topic, reader) ∷ []) }
+    ensures refused { OnErr result (readings.new.items ≡ readings.old.items) }
+{
+    match readings.push((topic, reader)) {
+        Ok(()) => Ok(()),
+        Err(_) => Err(Memory),
+    }
+}
+
+/// A book with the source of its topics.
+#[derive(Drop)]
+struct Desk {
+    book: CalcBook,
+    feed: Feed,
+}
+
 /// A cell of the first column.
 fn cell(row: u32) -> Cell {
     Cell {
@@ -38,12 +81,25 @@ fn cell(row: u32) -> Cell {
     }
 }
 
-/// Gives a row a content.
-fn set(book: &mut CalcBook, row: u32, content: Content) -> Result<(), Fail>
-    requires { (s : CalcState) × AtRest sample_answer book.old s }
-    ensures { OnOk result ((s : CalcState) × AtRest sample_answer book.new s) }
+/// An empty book.
+fn new_desk(alloc: Global) -> Desk
+    ensures { Stands result.book result.feed.value result.feed.readings.items }
 {
-    match book.set(cell(row), content) {
+    Desk {
+        book: CalcBook::new(alloc),
+        feed: Feed {
+            value: 10,
+            readings: Vec::new(alloc),
+        },
+    }
+}
+
+/// Gives a row a content.
+fn set(desk: &mut Desk, row: u32, content: Content) -> Result<(), Fail>
+    requires { Stands desk.old.book desk.old.feed.value desk.old.feed.readings.items }
+    ensures { OnOk result (Stands desk.new.book desk.new.feed.value desk.new.feed.readings.items) }
+{
+    match desk.book.set(cell(row), content) {
         Ok(()) => {}
         Err(_) => return Err(Fail::from("a content is refused")),
     }
@@ -51,49 +107,121 @@ fn set(book: &mut CalcBook, row: u32, content: Content) -> Result<(), Fail>
 }
 
 /// Takes the content of a row away.
-fn clear(book: &mut CalcBook, row: u32) -> Result<(), Fail>
-    requires { (s : CalcState) × AtRest sample_answer book.old s }
-    ensures { OnOk result ((s : CalcState) × AtRest sample_answer book.new s) }
+fn clear(desk: &mut Desk, row: u32) -> Result<(), Fail>
+    requires { Stands desk.old.book desk.old.feed.value desk.old.feed.readings.items }
+    ensures { OnOk result (Stands desk.new.book desk.new.feed.value desk.new.feed.readings.items) }
 {
-    book.clear(cell(row))?;
+    desk.book.clear(cell(row))?;
+    Ok(())
+}
+
+/// The cells of readings.
+fn readers_of(alloc: Global, readings: &[(Topic, Cell)]) -> Result<Vec<Cell>, Memory>
+    ensures { IfOk result (λ readers. readers.items ≡ map (λ e. e.1) readings.now) }
+{
+    let mut readers = Vec::new(alloc);
+    for reading in readings {
+        readers.push(reading.1)?;
+    }
+    Ok(readers)
+}
+
+/// Gives each topic a value, and notes its readers.
+fn publish(alloc: Global, desk: &mut Desk, value: i64) -> Result<(), Fail>
+    requires { Stands desk.old.book desk.old.feed.value desk.old.feed.readings.items }
+    ensures { OnOk result (Stands desk.new.book desk.new.feed.value desk.new.feed.readings.items) }
+{
+    let readers = readers_of(alloc, desk.feed.readings.as_slice())?;
+    desk.book.note_changed(readers.as_slice())?;
+    desk.feed.value = value;
+    Ok(())
+}
+
+/// Notes the callers of RTD.
+fn name_server(desk: &mut Desk) -> Result<(), Fail>
+    requires { Stands desk.old.book desk.old.feed.value desk.old.feed.readings.items }
+    ensures { OnOk result (Stands desk.new.book desk.new.feed.value desk.new.feed.readings.items) }
+{
+    desk.book.note_rtd_callers()?;
+    Ok(())
+}
+
+/// Begins a recalculation and gives it up.
+fn begin_in_vain(desk: &mut Desk) -> Result<(), Fail>
+    requires { Stands desk.old.book desk.old.feed.value desk.old.feed.readings.items }
+    ensures { OnOk result (Stands desk.new.book desk.new.feed.value desk.new.feed.readings.items) }
+{
+    let _forgotten = desk.book.begin(BeginKind::Dirty)?;
+    desk.book.cancel();
     Ok(())
 }
 
 /// Makes an edit.
-fn enter(alloc: Global, book: &mut CalcBook, row: u32, edit: Edit) -> Result<(), Fail>
-    requires { (s : CalcState) × AtRest sample_answer book.old s }
-    ensures { OnOk result ((s : CalcState) × AtRest sample_answer book.new s) }
+fn enter(alloc: Global, desk: &mut Desk, row: u32, edit: Edit) -> Result<(), Fail>
+    requires { Stands desk.old.book desk.old.feed.value desk.old.feed.readings.items }
+    ensures { OnOk result (Stands desk.new.book desk.new.feed.value desk.new.feed.readings.items) }
 {
     match edit {
-        Edit::Number(n) => set(book, row, Content::Num(n)),
-        Edit::Formula(text) => set(book, row, Content::Formula(parse(alloc, text)?)),
-        Edit::Clear => clear(book, row),
+        Edit::Number(n) => set(desk, row, Content::Num(n)),
+        Edit::Formula(text) => set(desk, row, Content::Formula(parse(alloc, text)?)),
+        Edit::Clear => clear(desk, row),
+        Edit::Publish(value) => publish(alloc, desk, value),
+        Edit::Server => name_server(desk),
+        Edit::Cancel => begin_in_vain(desk),
         Edit::Nothing => Ok(()),
     }
 }
 
-/// Recalculates, and answers how many cells were stale.
-fn recalculate(book: &mut CalcBook, kind: BeginKind) -> Result<u64, Fail>
-    requires { (s : CalcState) × AtRest sample_answer book.old s }
-    ensures { IfOk result (λ count. (s : CalcState) × AtRest sample_answer book.new s) }
+/// Whether a cell is among some.
+fn stands_in(cells: &[Cell], cell: Cell) -> bool
+    ensures { result ≡ is_among cells.now cell }
 {
-    book.begin(kind)?;
-    let count = book.settle(1, &SampleAddIns)?;
+    cells.contains(&cell)
+}
+
+/// The readings of other cells.
+fn kept(
+    alloc: Global,
+    readings: &[(Topic, Cell)],
+    forgotten: &[Cell],
+) -> Result<Vec<(Topic, Cell)>, Memory>
+    ensures { IfOk result (λ kept. kept.items
+        ≡ filter (λ e. not (is_among forgotten.now e.1)) readings.now) }
+{
+    let mut kept = Vec::new(alloc);
+    for reading in readings {
+        if !stands_in(forgotten, reading.1) {
+            let topic = reading.0.copy()?;
+            kept.push((topic, reading.1))?;
+        }
+    }
+    Ok(kept)
+}
+
+/// Recalculates, and answers how many cells were stale.
+fn recalculate(alloc: Global, desk: &mut Desk, kind: BeginKind) -> Result<u64, Fail>
+    requires { Stands desk.old.book desk.old.feed.value desk.old.feed.readings.items }
+    ensures { OnOk result (Stands desk.new.book desk.new.feed.value desk.new.feed.readings.items) }
+{
+    let forgotten = desk.book.begin(kind)?;
+    desk.feed.readings = kept(alloc, desk.feed.readings.as_slice(), forgotten.as_slice())?;
+    let count = desk.book.settle(1, &SampleAddIns, &mut desk.feed)?;
     Ok(count)
 }
 
 /// Recalculates where a kind is given, and asserts how many cells were stale.
 fn recalculate_if(
     rt: &impl Abort,
-    book: &mut CalcBook,
+    alloc: Global,
+    desk: &mut Desk,
     kind: Option<BeginKind>,
     stale: u64,
 ) -> Result<(), Fail>
-    requires { (s : CalcState) × AtRest sample_answer book.old s }
-    ensures { OnOk result ((s : CalcState) × AtRest sample_answer book.new s) }
+    requires { Stands desk.old.book desk.old.feed.value desk.old.feed.readings.items }
+    ensures { OnOk result (Stands desk.new.book desk.new.feed.value desk.new.feed.readings.items) }
 {
     if let Some(kind) = kind {
-        let found = recalculate(book, kind)?;
+        let found = recalculate(alloc, desk, kind)?;
         assert_eq!(rt; found, stale);
     }
     Ok(())
@@ -144,12 +272,12 @@ fn assert_chain(rt: &impl Abort, book: &CalcBook, order: &[u32], after: usize) -
 
 /// Makes all steps, from an empty book on.
 fn assert_steps(rt: &impl Abort, alloc: Global, steps: &[Step]) -> Result<(), Fail> {
-    let mut book = CalcBook::new(alloc);
+    let mut desk = new_desk(alloc);
     for (after, (row, edit, kind, stale, shown, order)) in steps.iter().enumerate() {
-        enter(alloc, &mut book, *row, *edit)?;
-        recalculate_if(rt, &mut book, *kind, *stale)?;
-        assert_sheet(rt, &book, shown, after)?;
-        assert_chain(rt, &book, order, after)?;
+        enter(alloc, &mut desk, *row, *edit)?;
+        recalculate_if(rt, alloc, &mut desk, *kind, *stale)?;
+        assert_sheet(rt, &desk.book, shown, after)?;
+        assert_chain(rt, &desk.book, order, after)?;
     }
     Ok(())
 }
@@ -340,6 +468,81 @@ fn the_kinds_all_and_rebuild_take_all_formula_cells(rt: HostRuntime) -> Result<(
             2,
             &[(1, Some(3)), (2, Some(4)), (3, Some(8)), (5, Some(8))],
             &[3, 5],
+        ),
+    ];
+    assert_steps(&rt, rt.alloc(), &steps)
+}
+
+#[test]
+fn a_topic_keeps_its_value_through_a_recalculation(rt: HostRuntime) -> Result<(), Fail> {
+    let steps: [Step; 9] = [
+        (
+            1,
+            Edit::Formula("=RTD(\"feed\",\"\",\"px\")"),
+            None,
+            0,
+            &[],
+            &[1],
+        ),
+        (2, Edit::Formula("=A1+1"), None, 0, &[], &[1, 2]),
+        (
+            3,
+            Edit::Formula("=7"),
+            Some(BeginKind::Dirty),
+            3,
+            &[(1, Some(10)), (2, Some(11)), (3, Some(7))],
+            &[1, 2, 3],
+        ),
+        // What is published shows once its reader is recalculated.
+        (
+            1,
+            Edit::Publish(20),
+            None,
+            0,
+            &[(1, Some(10)), (2, Some(11)), (3, Some(7))],
+            &[1, 2, 3],
+        ),
+        (
+            3,
+            Edit::Formula("=8"),
+            None,
+            0,
+            &[(1, Some(10)), (2, Some(11)), (3, Some(7))],
+            &[1, 2, 3],
+        ),
+        // A recalculation that is given up leaves the sheet, and what was changed.
+        (
+            1,
+            Edit::Cancel,
+            None,
+            0,
+            &[(1, Some(10)), (2, Some(11)), (3, Some(7))],
+            &[1, 2, 3],
+        ),
+        (
+            1,
+            Edit::Nothing,
+            Some(BeginKind::Dirty),
+            3,
+            &[(1, Some(20)), (2, Some(21)), (3, Some(8))],
+            &[1, 2, 3],
+        ),
+        // A new server has the callers of RTD evaluated, with whatever names them.
+        (
+            1,
+            Edit::Server,
+            Some(BeginKind::Dirty),
+            2,
+            &[(1, Some(20)), (2, Some(21)), (3, Some(8))],
+            &[1, 2, 3],
+        ),
+        (
+            1,
+            Edit::Publish(30),
+            Some(BeginKind::All),
+            3,
+            &[(1, Some(30)), (2, Some(31)), (3, Some(8))],
+            &[1, 2, 3],
         ),
     ];
     assert_steps(&rt, rt.alloc(), &steps)

@@ -2,7 +2,9 @@
 mod Chains
 mod Finishing
 mod Jobs
+mod Readings
 mod Samples
+mod TopicsRead
 mod Unknowns
 mod Working
 pub mod PublicLaws

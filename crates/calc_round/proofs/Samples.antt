@@ -2,7 +2,7 @@
 use Rattle.std.proofs.Common.{◌≡◌, ℕ, Bool, true, false, cond, ◌||◌, ◌&&◌, Option, None, Some, is_some, List, [], ◌∷◌, ◌++◌, refl, ap, sym, subst, ◌∙◌}
 use Rattle.std.specs.List.{IsDistinct}
 use Rattle.std.specs.Option.{option_map}
-use Rattle.std.proofs.lemmas.Bool.{and_from, or_right}
+use Rattle.std.proofs.lemmas.Bool.{and_from, or_right, true≢false}
 use Rattle.std.proofs.lemmas.Map.Keys.{IsDistinct-push}
 use Rattle.cell_chain.specs.CellOrder.{entries_among}
 use Rattle.cell_chain.proofs.PublicLaws.{among-append, among-entries_among}
@@ -13,14 +13,17 @@ use Rattle.cell_store.specs.Gathering.{has_no_value}
 use Rattle.cell_store.specs.Store.{GainsTouched, PutsPresent, StoreState, is_touched, present_at}
 use Rattle.cell_values.specs.declared.values.Value.{Value}
 use Rattle.cell_values.specs.declared.values.Value.TheVariants as values
+use Rattle.formula_parse.specs.declared.nodes.Node.{Node}
+use Rattle.topic_source.specs.Source.{SourceState}
 use Rattle.workbook.specs.declared.contents.Content.{Content}
 use Rattle.workbook.specs.declared.contents.Content.TheVariants as contents
-use Rattle.workbook.specs.Book.{IsInOrder, SetsContent, content_at, formula_count, has_formula, is_formula}
+use Rattle.workbook.specs.Book.{IsInOrder, SetsContent, by_content, content_at, formula_count, has_formula, is_formula}
 use Rattle.workbook.specs.Circular.{is_circular, walks_on}
 use Rattle.workbook.specs.Meaning.{Setting, Val, content_meaning, meaning}
 use Rattle.workbook.proofs.PublicLaws.{meaning-unfolds, walks-formula}
+use Rattle.calc_round.specs.Readings.{ReadsFollow}
 use Rattle.calc_round.specs.Rounds.{IsWorking, is_unfinished}
-use Rattle.calc_round.specs.Samples.{IsUnevaluated, first_value}
+use Rattle.calc_round.specs.Samples.{IsUnevaluated, IsUnread, first_value}
 use Rattle.calc_round.proofs.Chains.{distinct-filter, distinct-none}
 
 -- ---- nothing is entered
@@ -156,3 +159,20 @@ module _ (setting : Setting) (book : List (Cell × Content)) (store : StoreState
         let here = start.cells q ∙ sym (unfinished_formula q) ∙ h in
         or_right (is_circular book q) _ (all_among q ∙ and_from _ _ here here);
   })
+
+-- ---- nothing was noted, and no formula has its value
+constant_reads : (o : Option Content) (reads : Node → Bool) (v : Value) → option_map first_value o ≡ Some (Some v) → by_content (λ w. false) reads o ≡ true → ⊥
+constant_reads None reads v h read = cc
+constant_reads (Some (contents.Num n)) reads v h read = cc
+constant_reads (Some (contents.Text t)) reads v h read = cc
+constant_reads (Some (contents.Bool b)) reads v h read = cc
+constant_reads (Some (contents.Error e)) reads v h read = cc
+constant_reads (Some (contents.Formula tree)) reads v h read = cc
+
+pub unevaluated-reads : (answer : List ℕ → List Value → Value) (source : SourceState) (book : List (Cell × Content)) (store : StoreState) (entries : List Cell)
+    → IsUnevaluated book store entries → IsUnread source → ReadsFollow answer source book store
+unevaluated-reads answer source book store entries start unread = record {
+  sound = λ t c h. absurd (true≢false (sym h ∙ unread t c));
+  served = λ t c h. absurd (true≢false (sym h ∙ unread t c));
+  complete = λ t c v h read served. absurd (constant_reads (content_at book c) _ v (sym (start.present c) ∙ h) read);
+}

@@ -5,18 +5,17 @@ use Rattle.cell_refs.specs.declared.grid.Cell.{Cell}
 use Rattle.cell_refs.specs.Cell.{is_among, same_cell}
 use Rattle.cell_store.specs.Gathering.{has_no_value}
 use Rattle.cell_store.specs.Store.{KeepsShown, KeepsTouched, StoreState, is_touched, present_at}
-use Rattle.cell_values.specs.declared.errors.ErrorKind.TheVariants as errors
+use Rattle.cell_values.specs.declared.topics.Topic.{Topic}
 use Rattle.cell_values.specs.declared.values.Value.{Value}
-use Rattle.cell_values.specs.declared.values.Value.TheVariants as values
 use Rattle.workbook.specs.declared.contents.Content.{Content}
 use Rattle.workbook.specs.Book.{IsInOrder, cell_precedents, content_at, is_formula}
 use Rattle.workbook.specs.Circular.{is_circular}
 use Rattle.workbook.specs.Meaning.{Setting, Val, meaning}
 
--- what cells are evaluated over without servers, asynchronous calls and registered names: each topic is #N/A
-abbrev pub quiet_setting : (List ℕ → List Value → Value) → Setting
-quiet_setting answer = record {
-  snapshot = λ topic. values.Error errors.Na;
+-- what cells are evaluated over where topics have these values, without asynchronous calls and registered names
+abbrev pub topic_setting : (List ℕ → List Value → Value) → (Topic → Value) → Setting
+topic_setting answer snapshot = record {
+  snapshot = snapshot;
   accepted = λ cell site. None;
   registered = λ name. None;
   answer = answer;

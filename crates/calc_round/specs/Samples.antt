@@ -1,11 +1,15 @@
--- For the tests: a book of which nothing was evaluated.
-use Rattle.std.specs.Prelude.{◌≡◌, true, Option, None, Some, List}
-use Rattle.std.specs.List.{IsDistinct}
+-- For the tests: a book of which nothing was evaluated, and a source whose topics have values.
+use Rattle.std.specs.Prelude.{◌≡◌, ℕ, true, false, ◌&&◌, Option, None, Some, List, [], ◌∷◌}
+use Rattle.std.specs.List.{IsDistinct, list_any}
 use Rattle.std.specs.Option.{option_map}
 use Rattle.cell_refs.specs.declared.grid.Cell.{Cell}
 use Rattle.cell_refs.specs.Cell.{is_among, same_cell}
 use Rattle.cell_store.specs.Store.{StoreState, is_touched, present_at}
+use Rattle.cell_values.specs.declared.topics.Topic.{Topic}
 use Rattle.cell_values.specs.declared.values.Value.{Value}
+use Rattle.cell_values.specs.declared.values.Value.TheVariants as values
+use Rattle.cell_values.specs.Topic.{same_topic}
+use Rattle.topic_source.specs.Source.{SourceState, no_standing}
 use Rattle.workbook.specs.declared.contents.Content.{Content}
 use Rattle.workbook.specs.Book.{IsInOrder, by_content, content_at, is_formula}
 use Rattle.calc_round.specs.Rounds.{is_unfinished}
@@ -21,3 +25,21 @@ pub record IsUnevaluated (book : List (Cell × Content)) (store : StoreState) (e
   pub cells : (q : Cell) → is_among entries q ≡ is_formula book q
   pub once : IsDistinct same_cell entries
   pub touched : (q : Cell) → is_unfinished store q ≡ true → is_touched store q ≡ true
+
+-- no cell was noted for any topic
+abbrev pub IsUnread : SourceState → Type 0
+IsUnread source = (topic : Topic) (cell : Cell) → source.has_read topic cell ≡ false
+
+-- the first string of a topic as a value
+abbrev pub first_string : List (List ℕ) → Value
+first_string [] = values.Blank
+first_string (string ∷ strings) = values.Text string
+
+-- a source in which each topic has its first string as its value, after these readings
+abbrev pub echo_state : List (Topic × Cell) → SourceState
+echo_state readings = record {
+  snapshot = λ topic. first_string topic.strings;
+  is_served = λ topic. true;
+  has_read = λ topic cell. list_any (λ e. same_topic e.0 topic && same_cell e.1 cell) readings;
+  standing = no_standing;
+}

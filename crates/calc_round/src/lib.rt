@@ -6,6 +6,7 @@ mod places;
 mod rounds;
 #[cfg(test)]
 mod tests;
+mod valuing;
 
 pub use cell_values::Memory;
 pub use rounds::work_out;

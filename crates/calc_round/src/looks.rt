@@ -3,29 +3,29 @@
 ghost use Rattle.std.specs.Prelude.{◌≡◌, [], Ok, true, false, Some, IfOk, OnErr, MatchOption};
 ghost use Rattle.std.specs.List.Sorted.{IsStrictlySortedBy};
 ghost use Rattle.std.specs.Map.{keys_of};
-ghost use Rattle.cell_eval.specs.Jobs.{closed_world};
 ghost use Rattle.cell_refs.specs.Cell.{cell_cmp, is_among};
 ghost use Rattle.cell_store.specs.Gathering.{AreGathered};
 ghost use Rattle.cell_store.specs.Store.{KeepsShown, KeepsTouched, is_touched, present_at};
-ghost use Rattle.cell_values.specs.declared.values.Value.TheVariants as values;
-ghost use Rattle.cell_values.specs.declared.errors.ErrorKind.TheVariants as errors;
 ghost use Rattle.formula_parse.specs.Tree.{areas_named};
+ghost use Rattle.topic_source.specs.Source.{KeepsValues};
 ghost use Rattle.workbook.specs.declared.contents.Content.TheVariants as contents;
 ghost use Rattle.workbook.specs.Book.{IsInOrder, content_at, is_formula};
-ghost use Rattle.workbook.specs.Evaluation.{answer_of};
 ghost use Rattle.workbook.specs.Meaning.{Val, meaning};
-ghost use Rattle.calc_round.specs.Looks.{Finishes, IsJobOf, IsReordered, answer_value};
-ghost use Rattle.calc_round.specs.Rounds.{PresentMeans, is_unfinished, names_unfinished, quiet_setting};
+ghost use Rattle.calc_round.specs.Looks.{Finishes, IsJobOf, IsReordered};
+ghost use Rattle.calc_round.specs.Readings.{ReadsFollow};
+ghost use Rattle.calc_round.specs.Rounds.{PresentMeans, is_unfinished, names_unfinished, topic_setting};
 
 use super::places::{place_behind_named, place_behind_unfinished};
+use super::valuing::value_of_job;
 use addin_types::AddIns;
 use cell_chain::CellChain;
-use cell_eval::{Inputs, Job, Outcome, Registrations, Results, Topics, eval_closed};
+use cell_eval::{Inputs, Job, Registrations, Results, Topics};
 use cell_refs::Cell;
 use cell_store::CellStore;
-use cell_values::{ErrorKind, Memory, Value};
+use cell_values::Memory;
 use formula_parse::{Tree, names};
 use std::alloc::Global;
+use topic_source::TopicSource;
 use workbook::{Book, Content};
 
 /// What a recalculation looks at cells with: its number, the book, and what added functions answer.
@@ -39,13 +39,16 @@ pub struct Looker<'a, F> {
 
 impl<'a, F: AddIns> Looker<'a, F> {
     /// Gives an unfinished cell its value, where all cells that it names have theirs. Answers whether it did.
-    pub fn look(
+    pub fn look<T: TopicSource>(
         &self,
+        topics: &mut T,
         chain: &mut CellChain,
         store: &mut CellStore,
         cell: Cell,
     ) -> Result<bool, Memory>
-        requires means { PresentMeans (quiet_setting F.answer) self.now.book.now.contents
+        requires means { PresentMeans (topic_setting F.answer (T.state topics.old).snapshot)
+            self.now.book.now.contents store.old }
+        requires reads { ReadsFollow F.answer (T.state topics.old) self.now.book.now.contents
             store.old }
         requires ordered { IsInOrder self.now.book.now.contents }
         requires unfinished { is_unfinished store.old cell ≡ true }
@@ -53,8 +56,12 @@ impl<'a, F: AddIns> Looker<'a, F> {
         requires entry { is_among chain.old.entries cell ≡ true }
         requires idle { is_among chain.old.due cell ≡ false }
         ensures chain { IsReordered chain.old chain.new }
-        ensures finished { result ≡ Ok true → Finishes (quiet_setting F.answer)
+        ensures finished { result ≡ Ok true
+            → Finishes (topic_setting F.answer (T.state topics.old).snapshot)
             self.now.book.now.contents store.old store.new cell }
+        ensures values { KeepsValues (T.state topics.old) (T.state topics.new) }
+        ensures reads { ReadsFollow F.answer (T.state topics.new) self.now.book.now.contents
+            store.new }
         ensures waits { result ≡ Ok false
             → names_unfinished self.now.book.now.contents store.old cell ≡ true }
         ensures idle { result ≡ Ok false → store.new ≡ store.old }
@@ -65,7 +72,7 @@ impl<'a, F: AddIns> Looker<'a, F> {
         let Some(job) = self.take(chain, store, cell)? else {
             return Ok(false);
         };
-        match self.value(job)? {
+        match value_of_job(self.alloc, job, self.addins, topics)? {
             Some(value) => {
                 store.finish(cell, value);
                 Ok(true)
@@ -127,22 +134,5 @@ impl<'a, F: AddIns> Looker<'a, F> {
             results: Results::new(Vec::new(self.alloc)),
             functions: Registrations::new(Vec::new(self.alloc)),
         })
-    }
-
-    /// The value of a job: each topic that it needs is `#N/A`.
-    fn value(&self, job: Job) -> Result<Option<Value>, Memory>
-        ensures { IfOk result (λ value. value ≡ answer_value (answer_of
-            (closed_world F.answer job (values.Error errors.Na)) job.tree)) }
-    {
-        let mut job = job;
-        match eval_closed(
-            self.alloc,
-            &mut job,
-            self.addins,
-            &Value::Error(ErrorKind::Na),
-        )? {
-            Outcome::Done(value) => Ok(Some(value)),
-            Outcome::Topic(_) | Outcome::Call { .. } => Ok(None),
-        }
     }
 }

@@ -5,7 +5,9 @@ ghost use Rattle.std.specs.List.{IsDistinct};
 ghost use Rattle.cell_chain.specs.CellOrder.{entries_among};
 ghost use Rattle.cell_refs.specs.declared.grid.Cell.{Cell as OneCell};
 ghost use Rattle.cell_refs.specs.Cell.{is_among, same_cell};
-ghost use Rattle.calc_round.specs.Rounds.{HasSameCells, IsWorkedOut, IsWorking, KeepsFinished, names_unfinished, quiet_setting};
+ghost use Rattle.topic_source.specs.Source.{KeepsValues};
+ghost use Rattle.calc_round.specs.Readings.{ReadsFollow};
+ghost use Rattle.calc_round.specs.Rounds.{HasSameCells, IsWorkedOut, IsWorking, KeepsFinished, names_unfinished, topic_setting};
 
 use super::looks::Looker;
 use addin_types::AddIns;
@@ -15,25 +17,32 @@ use cell_store::CellStore;
 use cell_values::Memory;
 use std::alloc::Global;
 use std::sync::ledger::Ledger;
+use topic_source::TopicSource;
 use workbook::Book;
 
-/// Evaluates what is due and whatever waits for it, until the unfinished cells are the circular ones. A refusal
-/// leaves the rest due, so that the same call can be made again. Each look at a cell is a step.
-pub fn work_out<F: AddIns, L: Ledger>(
+/// Evaluates what is due and whatever waits for it, until the unfinished cells are the circular ones. Each topic that a
+/// formula needs is read for its cell. A refusal leaves the rest due, so that the same call can be made again. Each look
+/// at a cell is a step.
+pub fn work_out<F: AddIns, T: TopicSource, L: Ledger>(
     alloc: Global,
     round: u64,
     book: &Book,
     addins: &F,
+    topics: &mut T,
     chain: &mut CellChain,
     store: &mut CellStore,
     steps: &mut Steps<L>,
 ) -> Result<(), Memory>
-    requires working { IsWorking (quiet_setting F.answer) book.now.contents store.old
-        chain.old.entries chain.old.due }
-    ensures done { OnOk result (IsWorkedOut (quiet_setting F.answer) book.now.contents store.new) }
+    requires working { IsWorking (topic_setting F.answer (T.state topics.old).snapshot)
+        book.now.contents store.old chain.old.entries chain.old.due }
+    requires reads { ReadsFollow F.answer (T.state topics.old) book.now.contents store.old }
+    ensures done { OnOk result (IsWorkedOut (topic_setting F.answer (T.state topics.old).snapshot)
+        book.now.contents store.new) }
     ensures idle { OnOk result (chain.new.due ≡ []) }
-    ensures working { IsWorking (quiet_setting F.answer) book.now.contents store.new
-        chain.new.entries chain.new.due }
+    ensures working { IsWorking (topic_setting F.answer (T.state topics.old).snapshot)
+        book.now.contents store.new chain.new.entries chain.new.due }
+    ensures values { KeepsValues (T.state topics.old) (T.state topics.new) }
+    ensures reads { ReadsFollow F.answer (T.state topics.new) book.now.contents store.new }
     ensures kept { KeepsFinished store.old store.new }
     ensures cells { HasSameCells chain.old.entries chain.new.entries }
 {
@@ -45,7 +54,7 @@ pub fn work_out<F: AddIns, L: Ledger>(
         addins,
     };
     'passes: loop {
-        match pass(&looker, chain, store, &mut waiting, steps) {
+        match pass(&looker, topics, chain, store, &mut waiting, steps) {
             Ok(true) => make_due(chain, &mut waiting),
             Ok(false) => return Ok(()),
             Err(memory) => {
@@ -58,19 +67,26 @@ pub fn work_out<F: AddIns, L: Ledger>(
 }
 
 /// Looks at each cell that is due once. Those that aren't ready wait. Answers whether one was finished.
-fn pass<F: AddIns, L: Ledger>(
+fn pass<F: AddIns, T: TopicSource, L: Ledger>(
     looker: &Looker<'_, F>,
+    topics: &mut T,
     chain: &mut CellChain,
     store: &mut CellStore,
     waiting: &mut Vec<Cell>,
     steps: &mut Steps<L>,
 ) -> Result<bool, Memory>
-    requires working { IsWorking (quiet_setting F.answer) looker.now.book.now.contents store.old
-        chain.old.entries chain.old.due }
+    requires working { IsWorking (topic_setting F.answer (T.state topics.old).snapshot)
+        looker.now.book.now.contents store.old chain.old.entries chain.old.due }
+    requires reads { ReadsFollow F.answer (T.state topics.old) looker.now.book.now.contents
+        store.old }
     requires none { waiting.old.items ≡ [] }
     requires room { length chain.old.due ≤ vec_capacity waiting.old }
-    ensures working { IsWorking (quiet_setting F.answer) looker.now.book.now.contents store.new
-        chain.new.entries (waiting.new.items ++ chain.new.due) }
+    ensures working { IsWorking (topic_setting F.answer (T.state topics.old).snapshot)
+        looker.now.book.now.contents store.new chain.new.entries
+        (waiting.new.items ++ chain.new.due) }
+    ensures values { KeepsValues (T.state topics.old) (T.state topics.new) }
+    ensures reads { ReadsFollow F.answer (T.state topics.new) looker.now.book.now.contents
+        store.new }
     ensures kept { KeepsFinished store.old store.new }
     ensures cells { HasSameCells chain.old.entries chain.new.entries }
     ensures room { length (waiting.new.items ++ chain.new.due) ≤ vec_capacity waiting.new }
@@ -81,7 +97,7 @@ fn pass<F: AddIns, L: Ledger>(
 {
     let mut moved = false;
     'looks: while let Some(cell) = chain.next(steps) {
-        match looker.look(chain, store, cell) {
+        match looker.look(topics, chain, store, cell) {
             Ok(true) => moved = true,
             Ok(false) => push_reserved(waiting, cell),
             Err(memory) => {

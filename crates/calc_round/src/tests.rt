@@ -2,21 +2,26 @@ ghost use Rattle.std.specs.Prelude.{◌≡◌, ◌<◌, [], ◌∷◌, ◌++◌,
 ghost use Rattle.addin_types.specs.Samples.{sample_answer};
 ghost use Rattle.cell_refs.specs.Cell.{is_among};
 ghost use Rattle.workbook.specs.Book.{content_at, has_formula};
-ghost use Rattle.calc_round.specs.Rounds.{IsWorking, quiet_setting};
-ghost use Rattle.calc_round.specs.Samples.{IsUnevaluated, first_value};
+ghost use Rattle.cell_values.specs.declared.topics.Topic.{Topic as OneTopic};
+ghost use Rattle.cell_values.specs.declared.values.Value.{Value as OneValue};
+ghost use Rattle.topic_source.specs.Source.{SourceState};
+ghost use Rattle.calc_round.specs.Readings.{ReadsFollow};
+ghost use Rattle.calc_round.specs.Rounds.{IsWorking, topic_setting};
+ghost use Rattle.calc_round.specs.Samples.{IsUnevaluated, IsUnread, echo_state, first_value};
 
 use super::{Memory, work_out};
 use addin_types::SampleAddIns;
 use cell_chain::CellChain;
 use cell_refs::{Cell, Steps};
 use cell_store::CellStore;
-use cell_values::{Value, read_value};
+use cell_values::{Topic, Value, read_value};
 use formula_parse::parse;
 use std::alloc::Global;
 use std::marker::Brand;
 use std::process::Abort;
 use std::sync::ledger::{Blank, Ledger};
 use std::test::Fail;
+use topic_source::{NoTopics, TopicSource};
 use workbook::{Book, Content};
 
 /// What stands in the rows of the first column.
@@ -31,6 +36,28 @@ struct Sheet {
     book: Book,
     chain: CellChain,
     store: CellStore,
+}
+
+/// A source in which each topic has its first string as its value. It keeps each reading.
+#[derive(Drop)]
+struct Echo {
+    readings: Vec<(Topic, Cell)>,
+}
+
+impl TopicSource for Echo {
+    ghost state = { λ source. echo_state source.readings.items };
+
+    fn read(&mut self, topic: &Topic, reader: Cell) -> Result<Value, Memory> {
+        let value = match topic.strings.as_slice() {
+            [] => Value::Blank,
+            [first, ..] => Value::Text(first.copy()?),
+        };
+        let topic = topic.copy()?;
+        match self.readings.push((topic, reader)) {
+            Ok(()) => Ok(value),
+            Err(_) => Err(Memory),
+        }
+    }
 }
 
 /// A cell of the first column.
@@ -128,8 +155,11 @@ fn enter(alloc: Global, sheet: &mut Sheet, row: u32, text: &str) -> Result<(), F
 fn begin(alloc: Global, sheet: &mut Sheet) -> Result<(), Fail>
     requires { IsUnevaluated sheet.old.book.contents sheet.old.store
         sheet.old.chain.entries }
-    ensures { OnOk result (IsWorking (quiet_setting sample_answer) sheet.new.book.contents
+    ensures working { OnOk result ((snapshot : OneTopic → OneValue)
+        → IsWorking (topic_setting sample_answer snapshot) sheet.new.book.contents
         sheet.new.store sheet.new.chain.entries sheet.new.chain.due) }
+    ensures reads { OnOk result ((source : SourceState) → IsUnread source
+        → ReadsFollow sample_answer source sheet.new.book.contents sheet.new.store) }
 {
     let cells = sheet.chain.list(alloc)?;
     sheet.chain.rewind(&cells);
@@ -137,18 +167,24 @@ fn begin(alloc: Global, sheet: &mut Sheet) -> Result<(), Fail>
 }
 
 /// Recalculates.
-fn recalculate<L: Ledger>(
+fn recalculate<T: TopicSource, L: Ledger>(
     alloc: Global,
     sheet: &mut Sheet,
+    topics: &mut T,
     steps: &mut Steps<L>,
 ) -> Result<(), Fail>
-    requires { IsWorking (quiet_setting sample_answer) sheet.old.book.contents
-        sheet.old.store sheet.old.chain.entries sheet.old.chain.due }
-    ensures { OnOk result (IsWorking (quiet_setting sample_answer) sheet.new.book.contents
-        sheet.new.store sheet.new.chain.entries sheet.new.chain.due) }
+    requires working { IsWorking (topic_setting sample_answer (T.state topics.old).snapshot)
+        sheet.old.book.contents sheet.old.store sheet.old.chain.entries sheet.old.chain.due }
+    requires reads { ReadsFollow sample_answer (T.state topics.old) sheet.old.book.contents
+        sheet.old.store }
+    ensures working { OnOk result
+        (IsWorking (topic_setting sample_answer (T.state topics.new).snapshot)
+        sheet.new.book.contents sheet.new.store sheet.new.chain.entries sheet.new.chain.due) }
+    ensures reads { OnOk result (ReadsFollow sample_answer (T.state topics.new)
+        sheet.new.book.contents sheet.new.store) }
 {
     let Sheet { book, chain, store } = sheet;
-    work_out(alloc, 1, book, &SampleAddIns, chain, store, steps)?;
+    work_out(alloc, 1, book, &SampleAddIns, topics, chain, store, steps)?;
     Ok(())
 }
 
@@ -180,14 +216,16 @@ fn assert_sheet(
 }
 
 /// Recalculates a sheet of which nothing was evaluated, twice; the second time changes nothing.
-fn assert_recalculates<L: Ledger>(
+fn assert_recalculates<T: TopicSource, L: Ledger>(
     rt: &impl Abort,
     alloc: Global,
     blank: Blank,
+    topics: &mut T,
     texts: Texts<'_>,
     words: Words<'_>,
     order: &[u32],
 ) -> Result<(), Fail>
+    requires unread { IsUnread (T.state topics.old) }
     requires name { blank.name ≡ L.name }
     requires parts { blank.parts ≡ L.parts }
     requires some { 0 < blank.parts }
@@ -198,9 +236,9 @@ fn assert_recalculates<L: Ledger>(
         enter(alloc, &mut sheet, *row, text)?;
     }
     begin(alloc, &mut sheet)?;
-    recalculate(alloc, &mut sheet, &mut steps)?;
+    recalculate(alloc, &mut sheet, topics, &mut steps)?;
     assert_sheet(rt, alloc, &sheet, words, order)?;
-    recalculate(alloc, &mut sheet, &mut steps)?;
+    recalculate(alloc, &mut sheet, topics, &mut steps)?;
     assert_sheet(rt, alloc, &sheet, words, order)
 }
 
@@ -208,7 +246,15 @@ fn assert_recalculates<L: Ledger>(
 fn a_cell_is_moved_behind_the_one_that_it_names(rt: HostRuntime) -> Result<(), Fail> {
     let texts = &[(1, "=A2"), (2, "=1")];
     let words = &[(1, Some("1")), (2, Some("1"))];
-    assert_recalculates::<Brand>(&rt, rt.alloc(), Blank::new(1), texts, words, &[2, 1])
+    assert_recalculates::<NoTopics, Brand>(
+        &rt,
+        rt.alloc(),
+        Blank::new(1),
+        &mut NoTopics,
+        texts,
+        words,
+        &[2, 1],
+    )
 }
 
 #[test]
@@ -227,10 +273,11 @@ fn circular_cells_are_left(rt: HostRuntime) -> Result<(), Fail> {
         (4, Some("2")),
         (5, Some("2")),
     ];
-    assert_recalculates::<Brand>(
+    assert_recalculates::<NoTopics, Brand>(
         &rt,
         rt.alloc(),
         Blank::new(1),
+        &mut NoTopics,
         texts,
         words,
         &[1, 2, 3, 5, 4],
@@ -255,7 +302,15 @@ fn areas_have_texts_and_blanks(rt: HostRuntime) -> Result<(), Fail> {
         (6, Some("0")),
         (7, Some("4")),
     ];
-    assert_recalculates::<Brand>(&rt, rt.alloc(), Blank::new(1), texts, words, &[4, 6, 1, 7])
+    assert_recalculates::<NoTopics, Brand>(
+        &rt,
+        rt.alloc(),
+        Blank::new(1),
+        &mut NoTopics,
+        texts,
+        words,
+        &[4, 6, 1, 7],
+    )
 }
 
 #[test]
@@ -266,7 +321,58 @@ fn topics_and_names_are_unknown(rt: HostRuntime) -> Result<(), Fail> {
         (3, "=DOUBLE(2)"),
     ];
     let words = &[(1, Some("#N/A")), (2, Some("5")), (3, Some("#NAME?"))];
-    assert_recalculates::<Brand>(&rt, rt.alloc(), Blank::new(1), texts, words, &[1, 2, 3])
+    assert_recalculates::<NoTopics, Brand>(
+        &rt,
+        rt.alloc(),
+        Blank::new(1),
+        &mut NoTopics,
+        texts,
+        words,
+        &[1, 2, 3],
+    )
+}
+
+/// Asserts the readings of a source, each by the first string of its topic and the row of its cell.
+fn assert_readings(rt: &impl Abort, source: &Echo, wanted: &[(&'static str, u32)]) {
+    assert_eq!(*rt; source.readings.len(), wanted.len());
+    for ((topic, reader), (string, row)) in source.readings.iter().zip(wanted) {
+        match topic.strings.as_slice() {
+            [] => {}
+            [first, ..] => assert_eq!(*rt; first.as_str(), *string),
+        }
+        assert_eq!(*rt; *reader, cell(*row));
+    }
+}
+
+#[test]
+fn each_topic_that_is_needed_is_read_once_for_its_cell(rt: HostRuntime) -> Result<(), Fail> {
+    let texts = &[
+        (1, "=RTD(\"feed\",\"\",\"px\")&RTD(\"feed\",\"\",\"vol\")"),
+        (
+            2,
+            "=IF(TRUE,RTD(\"feed\",\"\",\"px\"),RTD(\"feed\",\"\",\"vol\"))",
+        ),
+        (3, "=RTD(\"feed\",\"\",\"px\")&RTD(\"feed\",\"\",\"px\")"),
+    ];
+    let words = &[
+        (1, Some("\"pxvol\"")),
+        (2, Some("\"px\"")),
+        (3, Some("\"pxpx\"")),
+    ];
+    let mut source = Echo {
+        readings: Vec::new(rt.alloc()),
+    };
+    assert_recalculates::<Echo, Brand>(
+        &rt,
+        rt.alloc(),
+        Blank::new(1),
+        &mut source,
+        texts,
+        words,
+        &[1, 2, 3],
+    )?;
+    assert_readings(&rt, &source, &[("px", 1), ("vol", 1), ("px", 2), ("px", 3)]);
+    Ok(())
 }
 
 /// Recalculates a chain of cells of which each names the next.
@@ -283,7 +389,7 @@ fn assert_chain<L: Ledger>(rt: &impl Abort, alloc: Global, blank: Blank) -> Resu
     }
     enter(alloc, &mut sheet, 200, "=7")?;
     begin(alloc, &mut sheet)?;
-    recalculate(alloc, &mut sheet, &mut steps)?;
+    recalculate(alloc, &mut sheet, &mut NoTopics, &mut steps)?;
     let listed = sheet.chain.list(alloc)?;
     for (found, row) in listed.iter().zip(1..=200) {
         assert_eq!(*rt; *found, cell(201_u32.saturating_sub(row)));

@@ -32,23 +32,23 @@ with_entry host actor command = record host {
   history = host.history ++ (record { actor = actor; command = command }) ∷ [];
 }
 
--- the commands that a plain desk takes
+-- the commands that a plain desk takes: all but those of asynchronous calls
 abbrev pub IsDeskCommand : Command → Type 0
 IsDeskCommand (commands.Set cell content) = Unit {0}
 IsDeskCommand (commands.Clear cell) = Unit {0}
-IsDeskCommand (commands.Begin kind) = Unit {0}
-IsDeskCommand (commands.Print form) = Unit {0}
-IsDeskCommand commands.Settle = Unit {0}
 IsDeskCommand (commands.Register name registration) = ⊥
-IsDeskCommand (commands.Server name) = ⊥
-IsDeskCommand (commands.Publish server strings value) = ⊥
-IsDeskCommand (commands.Notify name) = ⊥
-IsDeskCommand (commands.Throttle interval) = ⊥
-IsDeskCommand (commands.Pull moment) = ⊥
-IsDeskCommand commands.Cancel = ⊥
+IsDeskCommand (commands.Server name) = Unit {0}
+IsDeskCommand (commands.Publish server strings value) = Unit {0}
+IsDeskCommand (commands.Notify name) = Unit {0}
+IsDeskCommand (commands.Throttle interval) = Unit {0}
+IsDeskCommand (commands.Pull moment) = Unit {0}
+IsDeskCommand (commands.Begin kind) = Unit {0}
+IsDeskCommand commands.Settle = Unit {0}
+IsDeskCommand commands.Cancel = Unit {0}
 IsDeskCommand (commands.Return handle value) = ⊥
-IsDeskCommand (commands.Listen name) = ⊥
-IsDeskCommand (commands.Events name) = ⊥
+IsDeskCommand (commands.Print form) = Unit {0}
+IsDeskCommand (commands.Listen name) = Unit {0}
+IsDeskCommand (commands.Events name) = Unit {0}
 
 -- the commands that act takes: these but Settle
 abbrev pub IsTaken : Command → Type 0

@@ -1,4 +1,8 @@
 -- What the product means.
 pub mod HostState
+pub mod Form
 -- What the crate's own functions keep.
 pub mod HostParts
+pub mod HostKeeping
+pub mod Standing
+pub mod Samples

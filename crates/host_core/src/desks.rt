@@ -2,16 +2,17 @@ ghost use Rattle.std.specs.Prelude.{◌≡◌, ◌<◌, [], None, length, IfOk, 
 
 use super::hosts::{ActFault, Host};
 use addin_types::AddIns;
+use rtd_server::Maker;
 use std::marker::Model;
 use workbook::{Command, Entry, Reply};
 
 /// A desk on one thread: it gives commands to a host, as the actor 0.
 #[derive(Drop)]
-pub struct PlainDesk<F: AddIns + Drop> {
-    host: Host<F>,
+pub struct PlainDesk<M: Maker + Drop, F: AddIns + Drop> {
+    host: Host<M, F>,
 }
 
-impl<F: AddIns + Drop> Model for PlainDesk<F> {
+impl<M: Maker + Drop, F: AddIns + Drop> Model for PlainDesk<M, F> {
     ghost use Rattle.formula_parse.specs.contracts.nodes.Node as e;
     ghost use Rattle.host_core.specs.HostState.{HostState};
     ghost use Rattle.std.specs.Coded.{codes};
@@ -23,12 +24,13 @@ impl<F: AddIns + Drop> Model for PlainDesk<F> {
     ghost view = { λ d. d.host };
 }
 
-impl<F: AddIns + Drop> PlainDesk<F> {
+impl<M: Maker + Drop, F: AddIns + Drop> PlainDesk<M, F> {
+    ghost use Rattle.host_core.specs.Form.{IsInForm};
     ghost use Rattle.host_core.specs.HostState.{IsActFault, IsDeskCommand, state_now, terms_of, with_entry};
     ghost use Rattle.workbook.specs.Step.{reply_to};
 
     /// A desk at a host in which no recalculation runs.
-    pub fn new(host: Host<F>) -> PlainDesk<F>
+    pub fn new(host: Host<M, F>) -> PlainDesk<M, F>
         requires idle { (state_now F.answer host).running ≡ None }
         ensures { result ≡ host }
     {
@@ -39,6 +41,7 @@ impl<F: AddIns + Drop> PlainDesk<F> {
     /// the history. A refusal changes nothing that shows.
     pub fn act(&mut self, command: Command) -> Result<Reply, ActFault>
         requires taken { IsDeskCommand command }
+        requires form { IsInForm command }
         ensures reply { IfOk result (λ reply. reply
             ≡ reply_to (terms_of F.answer self.old) [] (state_now F.answer self.old) command) }
         ensures entry { OnOk result (self.new ≡ with_entry self.old 0 command) }
@@ -60,14 +63,14 @@ impl<F: AddIns + Drop> PlainDesk<F> {
     }
 
     /// The host.
-    pub fn host(&self) -> &Host<F>
+    pub fn host(&self) -> &Host<M, F>
         ensures { result.now ≡ self.now }
     {
         &self.host
     }
 
     /// The host, as the desk leaves it.
-    pub fn into_host(self) -> Host<F>
+    pub fn into_host(self) -> Host<M, F>
         ensures { result ≡ self }
     {
         self.host

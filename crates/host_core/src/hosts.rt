@@ -4,6 +4,7 @@ use super::round_books::RoundBook;
 use addin_types::AddIns;
 use cell_refs::Cell;
 use cell_values::Memory;
+use rtd_server::Maker;
 use std::alloc::Global;
 use std::marker::Model;
 use workbook::{Book, Command, Entry, Reply};
@@ -16,21 +17,22 @@ pub enum ActFault {
     Memory(Command),
 }
 
-/// A host, with add-in functions.
+/// A host, with a maker of its servers, none of which fails, and add-in functions.
 #[derive(Drop)]
-pub struct Host<F: AddIns + Drop> {
+pub struct Host<M: Maker + Drop, F: AddIns + Drop> {
     session: u64,
     limit: usize,
+    maker: M,
     addins: F,
-    book: RoundBook,
+    book: RoundBook<M::Server>,
     history: Vec<Entry>,
 }
 
-impl<F: AddIns + Drop> Model for Host<F> {
-    ghost use Rattle.std.specs.Prelude.{◌<◌, ◌≤◌, length, vec_capacity};
+impl<M: Maker + Drop, F: AddIns + Drop> Model for Host<M, F> {
+    ghost use Rattle.std.specs.Prelude.{◌+◌, ◌<◌, ◌≤◌, IsTrue, length, vec_capacity};
     ghost use Rattle.formula_parse.specs.contracts.nodes.Node as e;
     ghost use Rattle.host_core.specs.HostState.{HostState};
-    ghost use Rattle.host_core.specs.HostParts.{Stands, terms_with};
+    ghost use Rattle.host_core.specs.Standing.{Stands, terms_with};
     ghost use Rattle.std.specs.Coded.{codes};
     ghost use Rattle.workbook.specs.History.{state_of};
 
@@ -40,36 +42,48 @@ impl<F: AddIns + Drop> Model for Host<F> {
 
     ghost view = { λ h. record { session = h.session; limit = h.limit; history = h.history.items } };
 
-    // The book stands for the state that the history gives. The history has room up to the limit.
+    // The book stands for the state that the history gives. The history and the events have room up to the limit.
     ghost invariant = { λ h. (0 < h.session) × (length h.history.items ≤ h.limit)
         × (h.limit ≤ vec_capacity h.history)
         × (h.book.round ≤ length h.history.items)
-        × Stands F.answer h.book
+        × (h.limit ≤ length h.history.items + h.book.events.room)
+        × IsTrue M.is_steady
+        × Stands M.Server.state F.answer h.book
         (state_of (terms_with F.answer h.session h.limit) h.history.items) };
 }
 
-impl<F: AddIns + Drop> Host<F> {
-    ghost use Rattle.std.specs.Prelude.{None, IfOk, OnOk, IfErr, length};
+impl<M: Maker + Drop, F: AddIns + Drop> Host<M, F> {
+    ghost use Rattle.std.specs.Prelude.{None, IfOk, OnOk, IfErr, IsTrue, length};
     ghost use Rattle.cell_refs.specs.declared.grid.Cell.{Cell as OneCell};
     ghost use Rattle.cell_refs.specs.Cell.{is_among};
+    ghost use Rattle.host_core.specs.Form.{IsInForm};
     ghost use Rattle.host_core.specs.HostState.{IsActFault, IsDeskCommand, IsTaken, state_now, terms_of, with_entry};
     ghost use Rattle.workbook.specs.declared.commands.Command.TheVariants as commands;
     ghost use Rattle.workbook.specs.Book.{is_formula};
     ghost use Rattle.workbook.specs.Step.{reply_to};
 
-    /// A host with an empty book and an empty history, for which all room is taken here.
-    pub fn open(alloc: Global, session: u64, limit: usize, addins: F) -> Result<Host<F>, Memory>
+    /// A host with an empty book, no servers and an empty history, for which all room is taken here.
+    pub fn open(
+        alloc: Global,
+        session: u64,
+        limit: usize,
+        maker: M,
+        addins: F,
+    ) -> Result<Host<M, F>, Memory>
         requires session { 0 < session }
         requires limit { 0 < limit }
+        requires steady { IsTrue M.is_steady }
         ensures { IfOk result (λ host. host
             ≡ record { session = session; limit = limit; history = [] }) }
     {
         let history = Vec::with_capacity(alloc, limit)?;
+        let book = RoundBook::new(alloc, limit)?;
         Ok(Host {
             session,
             limit,
+            maker,
             addins,
-            book: RoundBook::new(alloc),
+            book,
             history,
         })
     }
@@ -78,6 +92,7 @@ impl<F: AddIns + Drop> Host<F> {
     /// the history. A refusal changes nothing.
     pub fn act(&mut self, actor: u32, command: Command) -> Result<Reply, ActFault>
         requires taken { IsTaken command }
+        requires form { IsInForm command }
         ensures reply { IfOk result (λ reply. reply
             ≡ reply_to (terms_of F.answer self.old) [] (state_now F.answer self.old) command) }
         ensures entry { OnOk result (self.new ≡ with_entry self.old actor command) }
@@ -103,6 +118,7 @@ impl<F: AddIns + Drop> Host<F> {
     /// Answers a command. An equal one is made first, for the history or to be given back.
     fn answer(&mut self, actor: u32, command: Command) -> Result<Reply, ActFault>
         requires taken { IsDeskCommand command }
+        requires form { IsInForm command }
         ensures reply { IfOk result (λ reply. reply
             ≡ reply_to (terms_of F.answer self.old) [] (state_now F.answer self.old) command) }
         ensures entry { OnOk result (self.new ≡ with_entry self.old actor command) }
@@ -117,7 +133,7 @@ impl<F: AddIns + Drop> Host<F> {
             Ok(kept) => kept,
             Err(Memory) => return Err(ActFault::Memory(command)),
         };
-        match self.book.act(&self.addins, command) {
+        match self.book.act(&mut self.maker, &self.addins, command) {
             Ok(reply) => {
                 push_reserved(
                     &mut self.history,

@@ -2,10 +2,17 @@
 #![tactic(auto)]
 
 mod desks;
+mod edits;
 mod hosts;
+mod listeners;
+mod pulls;
 #[cfg(test)]
 mod random_tests;
 mod round_books;
+mod rounds;
+#[cfg(test)]
+mod samples;
+mod servers;
 #[cfg(test)]
 mod tests;
 

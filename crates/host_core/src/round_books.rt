@@ -1,37 +1,49 @@
-ghost use Rattle.std.specs.Prelude.{◌≡◌, ◌+◌, ◌≤◌, ◌<◌, ◌^◌, [], true, false, IfOk, OnOk, OnErr};
-ghost use Rattle.calc_book.specs.CalcState.{CalcState};
-ghost use Rattle.calc_book.specs.Keeping.{Answers, Holds, Rests, Runs};
-ghost use Rattle.host_core.specs.HostParts.{IsStep, KeepsStates, Stands};
+ghost use Rattle.std.specs.Prelude.{◌≡◌, ◌<◌, ◌+◌, ◌^◌, IfOk, OnOk, OnErr};
+ghost use Rattle.calc_book.specs.Keeping.{Answers};
+ghost use Rattle.host_core.specs.Form.{IsInForm};
 ghost use Rattle.host_core.specs.HostState.{IsDeskCommand};
+ghost use Rattle.host_core.specs.Standing.{IsStep, KeepsNumbers, KeepsStates, MovesNumbers, Stands};
 ghost use Rattle.workbook.specs.State.{State, first_state};
-ghost use Rattle.workbook.specs.declared.commands.Command.TheVariants as commands;
 
 use addin_types::AddIns;
 use calc_book::CalcBook;
-use cell_refs::Cell;
+use calc_events::Events;
 use cell_values::Memory;
+use rtd_server::{Maker, RtdServer};
+use rtd_topics::RtdTopics;
 use std::alloc::Global;
-use workbook::{BeginKind, Command, Content, Form, Reply, SetFault, SheetCells};
+use workbook::{Command, Reply};
 
-/// A book that recalculates, with the number of the last begun recalculation, from 0, and whether it runs.
+/// A book that recalculates, with its real-time data, the events of its recalculations, the number of the last begun
+/// one, from 0, and whether it runs.
 #[derive(Drop)]
-pub struct RoundBook {
-    calc: CalcBook,
-    round: u64,
-    running: bool,
+pub struct RoundBook<S: RtdServer + Drop> {
+    pub(super) alloc: Global,
+    pub(super) calc: CalcBook,
+    pub(super) rtd: RtdTopics<S>,
+    pub(super) events: Events,
+    pub(super) round: u64,
+    pub(super) running: bool,
 }
 
-impl RoundBook {
-    /// An empty book.
-    pub fn new(alloc: Global) -> RoundBook
-        ensures stands { (answer : Answers) → Stands answer result first_state }
-        ensures round { result.round ≡ 0 }
+impl<S: RtdServer + Drop> RoundBook<S> {
+    /// An empty book without servers, with room for so many events. No server of the type ever fails.
+    pub fn new(alloc: Global, room: usize) -> Result<RoundBook<S>, Memory>
+        requires steady { (server : S) → S.faults server ≡ 0 }
+        ensures stands { IfOk result (λ book. (answer : Answers)
+            → Stands S.state answer book first_state) }
+        ensures round { IfOk result (λ book. book.round ≡ 0) }
+        ensures room { IfOk result (λ book. book.events.room ≡ room) }
     {
-        RoundBook {
+        let events = Events::new(alloc, room)?;
+        Ok(RoundBook {
+            alloc,
             calc: CalcBook::new(alloc),
+            rtd: RtdTopics::new(alloc),
+            events,
             round: 0,
             running: false,
-        }
+        })
     }
 
     /// The book that recalculates.
@@ -42,115 +54,41 @@ impl RoundBook {
     }
 
     /// Answers a command. A refusal changes nothing that shows.
-    pub fn act<F: AddIns>(&mut self, addins: &F, command: Command) -> Result<Reply, Memory>
+    pub fn act<M: Maker<Server = S>, F: AddIns>(
+        &mut self,
+        maker: &mut M,
+        addins: &F,
+        command: Command,
+    ) -> Result<Reply, Memory>
         requires taken { IsDeskCommand command }
+        requires form { IsInForm command }
         requires fits { self.old.round + 1 < 2 ^ 64 }
-        requires stands { (s : State) × Stands F.answer self.old s }
-        ensures step { IfOk result (IsStep F.answer self.old self.new command) }
-        ensures refused { OnErr result (KeepsStates F.answer self.old self.new) }
-        ensures round { OnOk result (self.new.round ≤ self.old.round + 1) }
-        ensures same_round { OnErr result (self.new.round ≡ self.old.round) }
+        requires room { 0 < self.old.events.room }
+        requires stands { (s : State) × Stands S.state F.answer self.old s }
+        ensures step { IfOk result (IsStep S.state F.answer self.old self.new command) }
+        ensures refused { OnErr result (KeepsStates S.state F.answer self.old self.new) }
+        ensures numbers { OnOk result (MovesNumbers self.old self.new) }
+        ensures same_numbers { OnErr result (KeepsNumbers self.old self.new) }
     {
         match command {
             Command::Set { cell, content } => self.set(cell, content),
             Command::Clear(cell) => self.clear(cell),
+            Command::Server(name) => self.server(maker, &name),
+            Command::Publish {
+                server,
+                strings,
+                value,
+            } => self.publish(&server, &strings, value),
+            Command::Notify(name) => Ok(self.notify(&name)),
+            Command::Throttle(interval) => Ok(self.throttle(interval)),
+            Command::Pull(moment) => self.pull(moment),
             Command::Begin(kind) => self.begin(kind),
             Command::Settle => self.settle(addins),
+            Command::Cancel => Ok(self.cancel()),
             Command::Print(form) => self.print(form),
-            _ => unreachable!(),
-        }
-    }
-
-    /// Gives a cell this content.
-    fn set(&mut self, cell: Cell, content: Content) -> Result<Reply, Memory>
-        ensures step { (answer : Answers)
-            → IfOk result (IsStep answer self.old self.new (commands.Set cell content)) }
-        ensures refused { (answer : Answers) → OnErr result (KeepsStates answer self.old self.new) }
-        ensures round { self.new.round ≡ self.old.round }
-    {
-        if self.running {
-            return Ok(Reply::Busy(self.round));
-        }
-        match self.calc.set(cell, content) {
-            Ok(()) => Ok(Reply::Ok),
-            Err(SetFault::CellLimit(_)) => Ok(Reply::CellLimit),
-            Err(SetFault::FormulaLimit(_)) => Ok(Reply::FormulaLimit),
-            Err(SetFault::Memory(_)) => Err(Memory),
-        }
-    }
-
-    /// Takes the content of a cell away.
-    fn clear(&mut self, cell: Cell) -> Result<Reply, Memory>
-        ensures step { (answer : Answers)
-            → IfOk result (IsStep answer self.old self.new (commands.Clear cell)) }
-        ensures refused { (answer : Answers) → OnErr result (KeepsStates answer self.old self.new) }
-        ensures round { self.new.round ≡ self.old.round }
-    {
-        if self.running {
-            return Ok(Reply::Busy(self.round));
-        }
-        match self.calc.clear(cell) {
-            Ok(()) => Ok(Reply::Ok),
-            Err(Memory) => Err(Memory),
-        }
-    }
-
-    /// Begins the next recalculation.
-    fn begin(&mut self, kind: BeginKind) -> Result<Reply, Memory>
-        requires fits { self.old.round + 1 < 2 ^ 64 }
-        requires rest { self.old.running ≡ false → Rests self.old.calc }
-        ensures step { (answer : Answers)
-            → IfOk result (IsStep answer self.old self.new (commands.Begin kind)) }
-        ensures refused { (answer : Answers) → OnErr result (KeepsStates answer self.old self.new) }
-        ensures round { OnOk result (self.new.round ≤ self.old.round + 1) }
-        ensures same_round { OnErr result (self.new.round ≡ self.old.round) }
-    {
-        if self.running {
-            return Ok(Reply::Busy(self.round));
-        }
-        match self.calc.begin(kind) {
-            Ok(()) => {
-                self.round += 1;
-                self.running = true;
-                Ok(Reply::Begun(self.round))
-            }
-            Err(Memory) => Err(Memory),
-        }
-    }
-
-    /// Completes the recalculation that runs.
-    fn settle<F: AddIns>(&mut self, addins: &F) -> Result<Reply, Memory>
-        requires runs { self.old.running ≡ true → Runs F.answer self.old.calc }
-        ensures step { IfOk result (IsStep F.answer self.old self.new commands.Settle) }
-        ensures refused { OnErr result (KeepsStates F.answer self.old self.new) }
-        ensures round { self.new.round ≡ self.old.round }
-    {
-        if !self.running {
-            return Ok(Reply::Idle);
-        }
-        match self.calc.settle(self.round, addins) {
-            Ok(cells) => {
-                self.running = false;
-                Ok(Reply::Done {
-                    round: self.round,
-                    cells,
-                })
-            }
-            Err(Memory) => Err(Memory),
-        }
-    }
-
-    /// The sheet of the last completed recalculation.
-    fn print(&self, form: Form) -> Result<Reply, Memory>
-        ensures step { (answer : Answers)
-            → IfOk result (IsStep answer self.now self.now (commands.Print form)) }
-    {
-        match self.calc.sheet() {
-            Ok(cells) => Ok(Reply::Sheet {
-                form,
-                cells: SheetCells::from_vec(cells),
-            }),
-            Err(Memory) => Err(Memory),
+            Command::Listen(name) => self.listen(name),
+            Command::Events(name) => self.fetch(&name),
+            Command::Register { .. } | Command::Return { .. } => unreachable!(),
         }
     }
 }

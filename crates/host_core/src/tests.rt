@@ -1,15 +1,17 @@
 ghost use Rattle.std.specs.Prelude.{◌<◌, ◌≡◌, [], IfOk};
-ghost use Rattle.host_core.specs.HostState.{IsDeskCommand};
+ghost use Rattle.host_core.specs.Samples.{IsGiven};
 
+use super::samples::{number_command, publish_command, pull_command, throttle_command};
 use super::{ActFault, Host, PlainDesk};
 use addin_types::SampleAddIns;
 use cell_refs::Cell;
-use cell_values::Value;
+use cell_values::{ErrorKind, Event, Name, Value};
 use formula_parse::parse;
+use rtd_server::FeedMaker;
 use std::alloc::Global;
 use std::process::Abort;
 use std::test::Fail;
-use workbook::{BeginKind, Command, Content, Form, Reply};
+use workbook::{BeginKind, Command, Content, EventList, Form, Reply};
 
 /// What is done, at rows of the first column.
 #[derive(Clone, Copy)]
@@ -19,11 +21,32 @@ enum Do {
     Clear(u32),
     Begin(BeginKind),
     Settle,
+    Cancel,
     Print,
+    Server(&'static str),
+    /// A server, a string and a number.
+    Publish(&'static str, &'static str, i64),
+    Notify(&'static str),
+    Throttle(i64),
+    Pull(u64),
+    Force,
+    Listen(&'static str),
+    Events(&'static str),
 }
 
-/// What rows of the first column show: numbers, or None for a circular cell.
-type Rows<'a> = &'a [(u32, Option<i64>)];
+/// What a cell shows.
+#[derive(Clone, Copy)]
+enum Seen<'a> {
+    Num(i64),
+    Text(&'a str),
+    Na,
+    Circular,
+}
+
+use Seen::{Circular, Na, Num};
+
+/// What rows of the first column show.
+type Rows<'a> = &'a [(u32, Seen<'a>)];
 
 /// What is answered.
 #[derive(Clone, Copy)]
@@ -34,6 +57,15 @@ enum Says<'a> {
     Done(u64, u64),
     Idle,
     Full,
+    Known,
+    NoServer,
+    NoListener,
+    Nothing,
+    Manual,
+    Early(u64),
+    Pulled(u64),
+    Cancelled(u64),
+    Gives(&'a [Event]),
     Shows(Rows<'a>),
 }
 
@@ -51,13 +83,10 @@ fn cell(row: u32) -> Cell {
 
 /// The command of what is done.
 fn command_of(alloc: Global, what: Do) -> Result<Command, Fail>
-    ensures { IfOk result IsDeskCommand }
+    ensures { IfOk result IsGiven }
 {
     match what {
-        Do::Number(row, number) => Ok(Command::Set {
-            cell: cell(row),
-            content: Content::Num(number),
-        }),
+        Do::Number(row, number) => number_command(cell(row), number),
         Do::Formula(row, text) => Ok(Command::Set {
             cell: cell(row),
             content: Content::Formula(parse(alloc, text)?),
@@ -65,16 +94,27 @@ fn command_of(alloc: Global, what: Do) -> Result<Command, Fail>
         Do::Clear(row) => Ok(Command::Clear(cell(row))),
         Do::Begin(kind) => Ok(Command::Begin(kind)),
         Do::Settle => Ok(Command::Settle),
+        Do::Cancel => Ok(Command::Cancel),
         Do::Print => Ok(Command::Print(Form::Lines)),
+        Do::Server(name) => Ok(Command::Server(Name::new(alloc, name)?)),
+        Do::Publish(server, string, number) => publish_command(alloc, server, string, number),
+        Do::Notify(name) => Ok(Command::Notify(Name::new(alloc, name)?)),
+        Do::Throttle(interval) => throttle_command(interval),
+        Do::Pull(moment) => pull_command(Some(moment)),
+        Do::Force => pull_command(None),
+        Do::Listen(name) => Ok(Command::Listen(Name::new(alloc, name)?)),
+        Do::Events(name) => Ok(Command::Events(Name::new(alloc, name)?)),
     }
 }
 
-/// Whether a cell shows this number, or None where it is circular.
-fn is_number(value: &Option<Value>, number: Option<i64>) -> bool {
+/// Whether a cell shows this.
+fn is_seen(value: &Option<Value>, seen: Seen<'_>) -> bool {
     match value {
-        Some(Value::Num(found)) => number == Some(*found),
+        Some(Value::Num(found)) => matches!(seen, Num(number) if number == *found),
+        Some(Value::Text(found)) => matches!(seen, Seen::Text(text) if text == found.as_str()),
+        Some(Value::Error(kind)) => matches!(seen, Na) && *kind == ErrorKind::Na,
         Some(_) => false,
-        None => number.is_none(),
+        None => matches!(seen, Circular),
     }
 }
 
@@ -83,12 +123,20 @@ fn shows(cells: &[(Cell, Option<Value>)], rows: Rows<'_>) -> bool {
     if cells.len() != rows.len() {
         return false;
     }
-    for ((at, value), (row, number)) in cells.iter().zip(rows) {
-        if *at != cell(*row) || !is_number(value, *number) {
+    for ((at, value), (row, seen)) in cells.iter().zip(rows) {
+        if *at != cell(*row) || !is_seen(value, *seen) {
             return false;
         }
     }
     true
+}
+
+/// Whether these events are wanted.
+fn gives(events: &EventList, wanted: Says<'_>) -> bool {
+    match wanted {
+        Says::Gives(wanted) => events.as_slice() == wanted,
+        _ => false,
+    }
 }
 
 /// Whether a reply is this one.
@@ -96,6 +144,18 @@ fn is_reply(reply: &Reply, wanted: Says<'_>) -> bool {
     match reply {
         Reply::Ok => matches!(wanted, Says::Ok),
         Reply::Idle => matches!(wanted, Says::Idle),
+        Reply::Known => matches!(wanted, Says::Known),
+        Reply::NoServer => matches!(wanted, Says::NoServer),
+        Reply::NoListener => matches!(wanted, Says::NoListener),
+        Reply::Nothing => matches!(wanted, Says::Nothing),
+        Reply::Manual => matches!(wanted, Says::Manual),
+        Reply::Early(found) => matches!(wanted, Says::Early(wait) if wait == *found),
+        Reply::Cancelled(found) => matches!(wanted, Says::Cancelled(round) if round == *found),
+        Reply::Pulled { changed, failed } => {
+            matches!(wanted, Says::Pulled(count) if count == *changed)
+                && failed.as_slice().is_empty()
+        }
+        Reply::Events(events) => gives(events, wanted),
         Reply::Busy(found) => matches!(wanted, Says::Busy(round) if round == *found),
         Reply::Begun(found) => matches!(wanted, Says::Begun(round) if round == *found),
         Reply::Done { round, cells } => {
@@ -127,10 +187,10 @@ fn lacks_memory(answer: &Result<Reply, ActFault>) -> bool {
 }
 
 /// A desk at a new host.
-fn new_desk(alloc: Global, limit: usize) -> Result<PlainDesk<SampleAddIns>, Fail>
+fn new_desk(alloc: Global, limit: usize) -> Result<PlainDesk<FeedMaker, SampleAddIns>, Fail>
     requires { 0 < limit }
 {
-    let host = Host::open(alloc, 1, limit, SampleAddIns)?;
+    let host = Host::open(alloc, 1, limit, FeedMaker, SampleAddIns)?;
     Ok(PlainDesk::new(host))
 }
 
@@ -138,7 +198,7 @@ fn new_desk(alloc: Global, limit: usize) -> Result<PlainDesk<SampleAddIns>, Fail
 fn step(
     rt: &impl Abort,
     alloc: Global,
-    desk: &mut PlainDesk<SampleAddIns>,
+    desk: &mut PlainDesk<FeedMaker, SampleAddIns>,
     what: Do,
     wanted: Says<'_>,
     place: usize,
@@ -185,7 +245,7 @@ fn commands_are_answered(rt: HostRuntime) -> Result<(), Fail> {
                 (Do::Print, Says::Shows(&[])),
                 (Do::Begin(BeginKind::Dirty), Says::Begun(1)),
                 (Do::Settle, Says::Done(1, 2)),
-                (Do::Print, Says::Shows(&[(1, Some(1)), (2, Some(1))])),
+                (Do::Print, Says::Shows(&[(1, Num(1)), (2, Num(1))])),
             ],
             &[2, 1],
         ),
@@ -198,14 +258,14 @@ fn commands_are_answered(rt: HostRuntime) -> Result<(), Fail> {
                 (Do::Settle, Says::Idle),
                 (Do::Number(1, 6), Says::Ok),
                 (Do::Formula(2, "=A1"), Says::Ok),
-                (Do::Print, Says::Shows(&[(1, Some(5))])),
+                (Do::Print, Says::Shows(&[(1, Num(5))])),
                 (Do::Begin(BeginKind::Dirty), Says::Begun(2)),
                 (Do::Number(1, 7), Says::Busy(2)),
                 (Do::Clear(1), Says::Busy(2)),
                 (Do::Begin(BeginKind::All), Says::Busy(2)),
-                (Do::Print, Says::Shows(&[(1, Some(5))])),
+                (Do::Print, Says::Shows(&[(1, Num(5))])),
                 (Do::Settle, Says::Done(2, 1)),
-                (Do::Print, Says::Shows(&[(1, Some(6)), (2, Some(6))])),
+                (Do::Print, Says::Shows(&[(1, Num(6)), (2, Num(6))])),
             ],
             &[2],
         ),
@@ -222,7 +282,7 @@ fn commands_are_answered(rt: HostRuntime) -> Result<(), Fail> {
                 (Do::Settle, Says::Done(2, 2)),
                 (
                     Do::Print,
-                    Says::Shows(&[(1, Some(10)), (2, Some(11)), (3, Some(12))]),
+                    Says::Shows(&[(1, Num(10)), (2, Num(11)), (3, Num(12))]),
                 ),
                 (Do::Begin(BeginKind::All), Says::Begun(3)),
                 (Do::Settle, Says::Done(3, 2)),
@@ -232,7 +292,7 @@ fn commands_are_answered(rt: HostRuntime) -> Result<(), Fail> {
                 (Do::Settle, Says::Done(5, 2)),
                 (
                     Do::Print,
-                    Says::Shows(&[(1, Some(10)), (2, Some(11)), (3, Some(12))]),
+                    Says::Shows(&[(1, Num(10)), (2, Num(11)), (3, Num(12))]),
                 ),
             ],
             &[2, 3],
@@ -244,11 +304,11 @@ fn commands_are_answered(rt: HostRuntime) -> Result<(), Fail> {
                 (Do::Formula(2, "=A1"), Says::Ok),
                 (Do::Begin(BeginKind::Dirty), Says::Begun(1)),
                 (Do::Settle, Says::Done(1, 2)),
-                (Do::Print, Says::Shows(&[(1, None), (2, None)])),
+                (Do::Print, Says::Shows(&[(1, Circular), (2, Circular)])),
                 (Do::Number(2, 7), Says::Ok),
                 (Do::Begin(BeginKind::Dirty), Says::Begun(2)),
                 (Do::Settle, Says::Done(2, 1)),
-                (Do::Print, Says::Shows(&[(1, Some(7)), (2, Some(7))])),
+                (Do::Print, Says::Shows(&[(1, Num(7)), (2, Num(7))])),
             ],
             &[1],
         ),
@@ -264,16 +324,16 @@ fn commands_are_answered(rt: HostRuntime) -> Result<(), Fail> {
                 (Do::Number(1, 6), Says::Ok),
                 (Do::Begin(BeginKind::Dirty), Says::Begun(2)),
                 (Do::Settle, Says::Done(2, 1)),
-                (Do::Print, Says::Shows(&[(1, Some(6)), (2, Some(6))])),
+                (Do::Print, Says::Shows(&[(1, Num(6)), (2, Num(6))])),
                 (Do::Clear(2), Says::Ok),
                 (Do::Formula(2, "=A1+1"), Says::Ok),
                 (Do::Begin(BeginKind::Dirty), Says::Begun(3)),
                 (Do::Settle, Says::Done(3, 1)),
-                (Do::Print, Says::Shows(&[(1, Some(6)), (2, Some(7))])),
+                (Do::Print, Says::Shows(&[(1, Num(6)), (2, Num(7))])),
                 (Do::Clear(2), Says::Ok),
                 (Do::Begin(BeginKind::Dirty), Says::Begun(4)),
                 (Do::Settle, Says::Done(4, 0)),
-                (Do::Print, Says::Shows(&[(1, Some(6))])),
+                (Do::Print, Says::Shows(&[(1, Num(6))])),
             ],
             &[],
         ),
@@ -291,7 +351,7 @@ fn commands_are_answered(rt: HostRuntime) -> Result<(), Fail> {
                 (Do::Settle, Says::Done(2, 1)),
                 (
                     Do::Print,
-                    Says::Shows(&[(1, Some(2)), (2, Some(5)), (3, Some(5))]),
+                    Says::Shows(&[(1, Num(2)), (2, Num(5)), (3, Num(5))]),
                 ),
                 (Do::Formula(2, "=A1"), Says::Ok),
                 (Do::Formula(3, "=A1+1"), Says::Ok),
@@ -301,7 +361,7 @@ fn commands_are_answered(rt: HostRuntime) -> Result<(), Fail> {
                 (Do::Settle, Says::Done(3, 1)),
                 (
                     Do::Print,
-                    Says::Shows(&[(1, Some(2)), (2, Some(2)), (3, Some(4))]),
+                    Says::Shows(&[(1, Num(2)), (2, Num(2)), (3, Num(4))]),
                 ),
             ],
             &[2],
@@ -320,7 +380,7 @@ fn commands_are_answered(rt: HostRuntime) -> Result<(), Fail> {
                 (Do::Settle, Says::Done(2, 2)),
                 (
                     Do::Print,
-                    Says::Shows(&[(1, Some(2)), (2, Some(2)), (3, Some(3))]),
+                    Says::Shows(&[(1, Num(2)), (2, Num(2)), (3, Num(3))]),
                 ),
             ],
             &[2, 3],
@@ -330,6 +390,97 @@ fn commands_are_answered(rt: HostRuntime) -> Result<(), Fail> {
         assert_steps(&rt, rt.alloc(), 100, *steps, chain)?;
     }
     Ok(())
+}
+
+#[test]
+fn a_pull_takes_what_flagged_servers_published(rt: HostRuntime) -> Result<(), Fail> {
+    let steps = &[
+        (Do::Server("feed"), Says::Ok),
+        (Do::Publish("feed", "px", 10), Says::Ok),
+        (Do::Formula(1, "=RTD(\"feed\",\"\",\"px\")"), Says::Ok),
+        (Do::Begin(BeginKind::Dirty), Says::Begun(1)),
+        (Do::Settle, Says::Done(1, 1)),
+        (Do::Print, Says::Shows(&[(1, Num(10))])),
+        (Do::Publish("feed", "px", 11), Says::Ok),
+        (Do::Pull(0), Says::Nothing),
+        (Do::Notify("feed"), Says::Ok),
+        (Do::Pull(0), Says::Pulled(1)),
+        (Do::Begin(BeginKind::Dirty), Says::Begun(2)),
+        (Do::Settle, Says::Done(2, 1)),
+        (Do::Print, Says::Shows(&[(1, Num(11))])),
+        (Do::Pull(500), Says::Nothing),
+        (Do::Notify("feed"), Says::Ok),
+        (Do::Pull(1_000), Says::Early(1_000)),
+        (Do::Pull(2_000), Says::Pulled(0)),
+        (Do::Throttle(-1), Says::Ok),
+        (Do::Notify("feed"), Says::Ok),
+        (Do::Pull(9_000), Says::Manual),
+        (Do::Force, Says::Pulled(0)),
+        (Do::Publish("zz", "a", 1), Says::NoServer),
+        (Do::Notify("zz"), Says::NoServer),
+        (Do::Publish("feed", "px", 12), Says::Ok),
+        (Do::Notify("feed"), Says::Ok),
+        (Do::Begin(BeginKind::Dirty), Says::Begun(3)),
+        (Do::Force, Says::Busy(3)),
+        (Do::Throttle(0), Says::Busy(3)),
+        (Do::Server("other"), Says::Busy(3)),
+        (Do::Settle, Says::Done(3, 0)),
+        (Do::Print, Says::Shows(&[(1, Num(11))])),
+        (Do::Force, Says::Pulled(1)),
+    ];
+    assert_steps(&rt, rt.alloc(), 100, steps, &[1])
+}
+
+#[test]
+fn a_server_is_seen_by_cells_that_named_it_before(rt: HostRuntime) -> Result<(), Fail> {
+    let steps = &[
+        (
+            Do::Formula(1, "=RTD(\"f\",\"\",\"a\")&RTD(\"f\",\"\",\"b\")"),
+            Says::Ok,
+        ),
+        (Do::Begin(BeginKind::Dirty), Says::Begun(1)),
+        (Do::Settle, Says::Done(1, 1)),
+        (Do::Print, Says::Shows(&[(1, Na)])),
+        (Do::Server("f"), Says::Ok),
+        (Do::Server("f"), Says::Known),
+        (Do::Publish("f", "a", 1), Says::Ok),
+        (Do::Publish("f", "b", 2), Says::Ok),
+        (Do::Begin(BeginKind::Dirty), Says::Begun(2)),
+        // What is published now isn't seen by this recalculation.
+        (Do::Publish("f", "b", 3), Says::Ok),
+        (Do::Settle, Says::Done(2, 1)),
+        (Do::Print, Says::Shows(&[(1, Seen::Text("12"))])),
+    ];
+    assert_steps(&rt, rt.alloc(), 100, steps, &[1])
+}
+
+#[test]
+fn listeners_fetch_how_recalculations_ended(rt: HostRuntime) -> Result<(), Fail> {
+    let steps = &[
+        (Do::Listen("app"), Says::Ok),
+        (Do::Formula(1, "=1"), Says::Ok),
+        (Do::Begin(BeginKind::Dirty), Says::Begun(1)),
+        (Do::Settle, Says::Done(1, 1)),
+        (Do::Begin(BeginKind::Dirty), Says::Begun(2)),
+        (Do::Settle, Says::Done(2, 0)),
+        (Do::Cancel, Says::Idle),
+        (
+            Do::Events("app"),
+            Says::Gives(&[Event::Ended(1), Event::Ended(2)]),
+        ),
+        (Do::Events("app"), Says::Gives(&[])),
+        (Do::Events("other"), Says::NoListener),
+        (Do::Listen("app"), Says::Known),
+        (Do::Number(2, 5), Says::Ok),
+        (Do::Begin(BeginKind::All), Says::Begun(3)),
+        (Do::Cancel, Says::Cancelled(3)),
+        (Do::Print, Says::Shows(&[(1, Num(1))])),
+        (Do::Events("app"), Says::Gives(&[Event::Cancelled(3)])),
+        (Do::Begin(BeginKind::Dirty), Says::Begun(4)),
+        (Do::Settle, Says::Done(4, 1)),
+        (Do::Print, Says::Shows(&[(1, Num(1)), (2, Num(5))])),
+    ];
+    assert_steps(&rt, rt.alloc(), 100, steps, &[1])
 }
 
 #[test]
@@ -359,7 +510,7 @@ fn a_host_gives_what_it_keeps(rt: HostRuntime) -> Result<(), Fail> {
     assert_eq!(rt; history.len(), 2);
     assert_eq!(rt; history[0].actor, 0);
     assert!(rt; matches!(history[1].command, Command::Settle));
-    let again = Host::open(rt.alloc(), 2, 1, add_ins)?;
+    let again = Host::open(rt.alloc(), 2, 1, FeedMaker, add_ins)?;
     assert_eq!(rt; again.session(), 2);
     Ok(())
 }

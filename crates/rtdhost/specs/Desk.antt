@@ -1,6 +1,7 @@
 -- For the crate's own functions: the desk that stands for a state, and when it refuses a command of a line.
 use Rattle.std.specs.Prelude.{◌≡◌, ℕ, ◌-◌, ◌<◌, ◌≤◌, Option, List, ◌++◌, length}
 use Rattle.addin_types.specs.Samples.{sample_answer}
+use Rattle.host_core.specs.Form.{IsInForm}
 use Rattle.host_core.specs.HostState.{HostState, IsDeskCommand, terms_of}
 use Rattle.session_script.specs.declared.script.Parsed.{Parsed}
 use Rattle.session_script.specs.declared.script.Parsed.TheVariants as parsed
@@ -20,10 +21,10 @@ pub record Stands (desk : HostState) (s : State) : Type 0 where
 abbrev pub room_of : HostState → ℕ
 room_of desk = program_terms.limit - length desk.history
 
--- a line that says commands that a plain desk takes
+-- a line that says commands that a plain desk takes, in form
 abbrev pub SaysDeskCommands : Parsed → Type 0
 SaysDeskCommands parsed.Empty = Unit {0}
-SaysDeskCommands (parsed.One command) = IsDeskCommand command
+SaysDeskCommands (parsed.One command) = IsDeskCommand command × IsInForm command
 SaysDeskCommands (parsed.Calc kind) = Unit {0}
 
 -- A line is refused: where no command is answered any more, the line says more commands than were still to be answered,

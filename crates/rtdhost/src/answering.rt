@@ -1,6 +1,7 @@
 //! Acts on the lines of a script and appends their replies.
 
 ghost use Rattle.std.specs.Prelude.{◌≡◌, ◌++◌, ◌+◌, [], IfErr, OnOk, None, Some, length};
+ghost use Rattle.host_core.specs.Form.{IsInForm};
 ghost use Rattle.host_core.specs.HostState.{IsDeskCommand};
 ghost use Rattle.rtdhost.specs.Desk.{IsRefused, Stands};
 ghost use Rattle.rtdhost.specs.Output.{commands_of_line, program_terms, said_reply, said_after};
@@ -12,6 +13,7 @@ ghost use Rattle.workbook.specs.Step.{reply_to, state_after};
 use addin_types::SampleAddIns;
 use cell_values::Memory;
 use host_core::{ActFault, PlainDesk};
+use rtd_server::FeedMaker;
 use session_script::{BadLine, Parsed, read_line};
 use sheet_print::{bad_text, reply_text};
 use std::alloc::Global;
@@ -44,7 +46,7 @@ impl From<Memory> for Refusal {
 /// those before.
 pub fn answer(
     alloc: Global,
-    desk: &mut PlainDesk<SampleAddIns>,
+    desk: &mut PlainDesk<FeedMaker, SampleAddIns>,
     line: &[u8],
     out: &mut Vec<u8>,
 ) -> Result<(), Refusal>
@@ -76,11 +78,12 @@ pub fn answer_bad(out: &mut Vec<u8>) -> Result<(), Refusal>
 
 /// Acts on a command and appends the reply's lines.
 fn act(
-    desk: &mut PlainDesk<SampleAddIns>,
+    desk: &mut PlainDesk<FeedMaker, SampleAddIns>,
     command: Command,
     out: &mut Vec<u8>,
 ) -> Result<(), Refusal>
     requires taken { IsDeskCommand command }
+    requires form { IsInForm command }
     ensures step { (s : State) → Stands desk.old s → OnOk result
         ((out.new.items ≡ out.old.items ++ reply_text (reply_to program_terms [] s command))
         × Stands desk.new (state_after program_terms [] s command)) }
@@ -100,7 +103,7 @@ fn act(
 
 /// Begins a recalculation and settles it. Where the begin is the last command, its reply is appended.
 fn calculate(
-    desk: &mut PlainDesk<SampleAddIns>,
+    desk: &mut PlainDesk<FeedMaker, SampleAddIns>,
     kind: BeginKind,
     out: &mut Vec<u8>,
 ) -> Result<(), Refusal>

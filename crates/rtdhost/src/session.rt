@@ -16,6 +16,7 @@ use addin_types::SampleAddIns;
 use cell_values::Memory;
 use host_core::{Host, PlainDesk};
 use host_io::{Line, LineFault, Lines, RunFault, Sink, Source, put};
+use rtd_server::FeedMaker;
 use std::alloc::Global;
 
 /// A reader of lines, the desk that acts on them, and the answer to the line that was read last.
@@ -23,7 +24,7 @@ use std::alloc::Global;
 pub struct Session {
     alloc: Global,
     lines: Lines,
-    desk: PlainDesk<SampleAddIns>,
+    desk: PlainDesk<FeedMaker, SampleAddIns>,
     replies: Vec<u8>,
 }
 
@@ -35,7 +36,7 @@ impl Session {
         ensures desk { IfOk result (λ session. session.desk
             ≡ record { session = 1; limit = program_terms.limit; history = [] }) }
     {
-        let host = Host::open(alloc, 1, MAX_COMMANDS, SampleAddIns)?;
+        let host = Host::open(alloc, 1, MAX_COMMANDS, FeedMaker, SampleAddIns)?;
         Ok(Session {
             alloc,
             lines: Lines::new(alloc),

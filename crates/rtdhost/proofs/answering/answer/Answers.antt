@@ -12,7 +12,8 @@ returns-in-Err-Later-clause-step c s stands =
 
 pub act-requires : goal.act-requires
 act-requires c =
-    record { taken = said_taken c.args.line.now (One c.in-Ok-One.command) (c.in-Ok-One.ensures.said ∙ ap Some c.in-Ok-One.field-0-is) }
+    let said = said_taken c.args.line.now (One c.in-Ok-One.command) (c.in-Ok-One.ensures.said ∙ ap Some c.in-Ok-One.field-0-is) in
+    record { taken = said.0; form = said.1 }
 
 pub returns-in-Ok-One-clause-step : goal.returns-in-Ok-One-clause-step
 returns-in-Ok-One-clause-step c s stands =

@@ -1,18 +1,18 @@
 use Rattle.std.proofs.Common.{refl, ap, ◌∙◌}
 use Rattle.workbook.specs.declared.commands.Command.TheVariants as commands
 use Rattle.workbook.specs.declared.replies.Reply.TheVariants as replies
-use Rattle.host_core.proofs.Widening.{holds_anyhow, step_of_parts}
+use Rattle.host_core.specs.HostKeeping.{calc_of}
+use Rattle.host_core.proofs.HostKept.{holds_anyhow}
+use Rattle.host_core.proofs.HostSteps.{step_aside}
 use Rattle.host_core.proofs.round_books.RoundBook.print.Goals as goal
 
 pub returns-in-Ok : goal.returns-in-Ok
-returns-in-Ok c = record {
+returns-in-Ok g c = record {
   step = λ answer.
       let old = c.args.self.now in
-      step_of_parts answer old old old.running old.running (commands.Print c.args.form) (replies.Sheet c.args.form c.from_vec.result) refl refl
-      (λ session limit calc kept. record {
-        next = calc;
-        said = ap (replies.Sheet c.args.form) (c.from_vec.ensures ∙ c.in-Ok.ensures answer calc (holds_anyhow answer old calc old.running kept));
-        same = refl;
-        kept = kept;
-      });
+      step_aside g.S.RtdServer.state answer old old.running (commands.Print c.args.form) (replies.Sheet c.args.form c.from_vec.result) refl
+      (λ session limit p noted kept. (
+        ap (replies.Sheet c.args.form) (c.from_vec.ensures ∙ c.in-Ok.ensures answer (calc_of p noted) (holds_anyhow answer old.calc old.running p noted kept.book)),
+        refl,
+      ));
 }

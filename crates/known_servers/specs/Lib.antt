@@ -1,0 +1,4 @@
+-- What the product means.
+pub mod Server
+-- What the crate's own functions keep.
+pub mod News

@@ -1,0 +1,15 @@
+pub mod Adding
+pub mod Connecting
+pub mod Disconnecting
+pub mod Dropping
+pub mod Linking
+pub mod Noting
+pub mod Publishing
+pub mod Reading
+pub mod Results
+pub mod RtdFacts
+pub mod ServerLists
+pub mod TableFacts
+pub mod Taking
+pub mod TopicFacts
+pub mod Views

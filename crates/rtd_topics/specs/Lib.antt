@@ -1,0 +1,5 @@
+-- What the product means.
+pub mod RtdState
+-- What the crate's own functions keep.
+pub mod Dropping
+pub mod Parts

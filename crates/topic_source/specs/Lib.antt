@@ -1,0 +1,2 @@
+-- What the product means.
+pub mod Source

@@ -1,0 +1,9 @@
+use Rattle.std.proofs.Common.{◌≡◌}
+use Rattle.indexmap.specs.IndexMap.{spare}
+use Rattle.topic_table.specs.Rows.{IsKept}
+use Rattle.topic_table.proofs.RowChanges.{Progress}
+use Rattle.topic_table.proofs.rows.keep_all.Given as goal
+
+-- the rows so far
+abbrev pub invariant-loop-i : goal.invariant-loop-i
+invariant-loop-i l = Progress IsKept l.i l.fn.rows.entries l.rows.entries × (spare l.rows ≡ spare l.fn.rows)
