@@ -332,9 +332,9 @@ module _ (answer : Answers) (calc : CalcBook) (r : RtdState) (events : Listening
         → Keeps answer calc rtd events round running (record p { published = topics_with p.published u value }) noted
     kept-published rtd u value known servers published throttle same =
         let stands : StandsFor answer (standing_of rtd) (record p { published = topics_with p.published u value }) running =
-            rtd-beside answer r p rtd running p.servers (topics_with p.published u value) p.throttle p.changed same (servers ∙ k.rtd.servers)
-            (λ topic. published topic ∙ ap (λ o. cond (same_topic u topic) (Some value) o) (k.rtd.published topic) ∙ ap (λ b. cond b (Some value) (lookup (same_topic topic) p.published)) (same_topics.symm u topic) ∙ sym (lookup-topics_with p.published u value topic))
-            (throttle ∙ k.rtd.throttle) k.rtd in record {
+        rtd-beside answer r p rtd running p.servers (topics_with p.published u value) p.throttle p.changed same (servers ∙ k.rtd.servers)
+        (λ topic. published topic ∙ ap (λ o. cond (same_topic u topic) (Some value) o) (k.rtd.published topic) ∙ ap (λ b. cond b (Some value) (lookup (same_topic topic) p.published)) (same_topics.symm u topic) ∙ sym (lookup-topics_with p.published u value topic))
+        (throttle ∙ k.rtd.throttle) k.rtd in record {
           topics = topics-published answer p k.topics u value known;
           changed = k.changed;
           book = same_book running k.book;
@@ -353,8 +353,8 @@ module _ (answer : Answers) (calc : CalcBook) (r : RtdState) (events : Listening
         → Keeps answer calc rtd events round running (record p { servers = servers_with_flag p.servers name }) noted
     kept-flagged rtd name servers published throttle same =
         let stands : StandsFor answer (standing_of rtd) (record p { servers = servers_with_flag p.servers name }) running =
-            rtd-beside answer r p rtd running (servers_with_flag p.servers name) p.published p.throttle p.changed same (servers ∙ ap (λ all. servers_with_flag all name) k.rtd.servers)
-            (λ topic. published topic ∙ k.rtd.published topic) (throttle ∙ k.rtd.throttle) k.rtd in record {
+        rtd-beside answer r p rtd running (servers_with_flag p.servers name) p.published p.throttle p.changed same (servers ∙ ap (λ all. servers_with_flag all name) k.rtd.servers)
+        (λ topic. published topic ∙ k.rtd.published topic) (throttle ∙ k.rtd.throttle) k.rtd in record {
           topics = topics-renamed answer p k.topics (servers_with_flag p.servers name) (names_with_flag p.servers name);
           changed = k.changed;
           book = same_book running k.book;
@@ -373,7 +373,7 @@ module _ (answer : Answers) (calc : CalcBook) (r : RtdState) (events : Listening
         → Keeps answer calc rtd events round running p noted
     kept-same_rtd rtd servers published throttle same =
         let stands : StandsFor answer (standing_of rtd) p running =
-            rtd-beside answer r p rtd running p.servers p.published p.throttle p.changed same (servers ∙ k.rtd.servers) (λ topic. published topic ∙ k.rtd.published topic) (throttle ∙ k.rtd.throttle) k.rtd in record {
+        rtd-beside answer r p rtd running p.servers p.published p.throttle p.changed same (servers ∙ k.rtd.servers) (λ topic. published topic ∙ k.rtd.published topic) (throttle ∙ k.rtd.throttle) k.rtd in record {
           topics = k.topics;
           changed = k.changed;
           book = k.book;

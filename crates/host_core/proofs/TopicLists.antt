@@ -177,9 +177,9 @@ module _ {X : Type 0} where
       elim (same_topic t e.0) as (λ b. same_topic t e.0 ≡ b → cond b (Some e.1) (lookup (same_topic t) es) ≡ None → is_listed (keys_of (cond (p e) (e ∷ filter p es) (filter p es))) t ≡ false) [
         | true ↦ λ is found. cc
         | false ↦ λ is found. elim (p e) as (λ b. is_listed (keys_of (cond b (e ∷ filter p es) (filter p es))) t ≡ false) [
-            | true ↦ ap (λ b. b || is_listed (keys_of (filter p es)) t) is ∙ none_passes p t es found
-            | false ↦ none_passes p t es found
-          ]
+          | true ↦ ap (λ b. b || is_listed (keys_of (filter p es)) t) is ∙ none_passes p t es found
+          | false ↦ none_passes p t es found
+        ]
       ] refl h
 
   -- a topic is among them where what is found of it passes
@@ -189,9 +189,9 @@ module _ {X : Type 0} where
       elim (same_topic t e.0) as (λ b. same_topic t e.0 ≡ b → is_listed (keys_of (cond (p e) (e ∷ filter p es) (filter p es))) t ≡ passes_found p t (cond b (Some e.1) (lookup (same_topic t) es))) [
         | true ↦ λ is. here is
         | false ↦ λ is. elim (p e) as (λ b. is_listed (keys_of (cond b (e ∷ filter p es) (filter p es))) t ≡ passes_found p t (lookup (same_topic t) es)) [
-            | true ↦ ap (λ b. b || is_listed (keys_of (filter p es)) t) is ∙ listed-passing p es (IsDistinct-tail same_topic e.0 (keys_of es) d) t
-            | false ↦ listed-passing p es (IsDistinct-tail same_topic e.0 (keys_of es) d) t
-          ]
+          | true ↦ ap (λ b. b || is_listed (keys_of (filter p es)) t) is ∙ listed-passing p es (IsDistinct-tail same_topic e.0 (keys_of es) d) t
+          | false ↦ listed-passing p es (IsDistinct-tail same_topic e.0 (keys_of es) d) t
+        ]
       ] refl
     where
       gone : (u : Topic) → t ≡ u → AllByRecursion (λ y. same_topic u y ≡ false) (keys_of es) → lookup (same_topic t) es ≡ None

@@ -63,8 +63,8 @@ module _ (answer : Answers) (p : HostParts) where
           | true ↦ λ same. lookup-pulled t ∙ ap (λ o. option_map_or (λ w. Some (pulled (t, w))) o None) found ∙ ap Some (sym (same_value_is v (pulled (t, v)) same))
           | false ↦ λ other.
               let told = listed-passing (λ entry. not (same_value entry.1 (pulled entry))) p.taken holds.once t
-                  ∙ ap (λ o. option_map_or (λ w. not (same_value w (pulled (t, w)))) o false) found
-                  ∙ ap not other in
+              ∙ ap (λ o. option_map_or (λ w. not (same_value w (pulled (t, w)))) o false) found
+              ∙ ap not other in
               absurd (cc (reader_among (shown_setting answer p) p.completed ordered news cell t reads told, untold))
         ] refl
 
@@ -76,7 +76,7 @@ module _ (answer : Answers) (p : HostParts) where
       opening = λ t unknown. holds.opening t (sym (same_names t) ∙ unknown);
       seen = λ cell t unchanged reads.
           let both = or_false (is_among (readers_among (shown_setting answer p) p.completed news) cell) (is_among p.changed cell)
-              (sym (list_any-append (same_cell cell) (readers_among (shown_setting answer p) p.completed news) p.changed) ∙ unchanged) in
+          (sym (list_any-append (same_cell cell) (readers_among (shown_setting answer p) p.completed news) p.changed) ∙ unchanged) in
           shown_still throttle cell t reads both.0 (holds.seen cell t both.1 reads);
     }
       where

@@ -263,7 +263,7 @@ module _ (answer : Answers) (p : HostParts) (holds : TopicsHold answer p) where
     opening = λ t unknown. holds.opening t (known_before p.servers server t.server unknown);
     seen = λ cell topic unchanged reads.
         let both = or_false (is_among (formulas_where p.book has_rtd_call) cell) (is_among p.changed cell)
-            (sym (list_any-append (same_cell cell) (formulas_where p.book has_rtd_call) p.changed) ∙ unchanged) in
+        (sym (list_any-append (same_cell cell) (formulas_where p.book has_rtd_call) p.changed) ∙ unchanged) in
         let calls = ap calls_rtd (sym (others cell both.1)) ∙ readers_call (shown_setting answer p) p.completed cell topic reads in
         absurd (cc (among-formulas_where has_rtd_call p.book ordered cell, both.0, calls));
   }

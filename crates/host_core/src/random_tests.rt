@@ -406,8 +406,9 @@ impl Topics {
     /// What the topics have in the recalculation that runs.
     fn snapshot(&self) -> Quotes {
         let mut quotes = self.opening;
-        for (quote, (connected, taken)) in
-            quotes.iter_mut().zip(self.connected.iter().zip(&self.taken))
+        for (quote, (connected, taken)) in quotes
+            .iter_mut()
+            .zip(self.connected.iter().zip(&self.taken))
         {
             if *connected {
                 *quote = *taken;
@@ -665,8 +666,7 @@ fn tree_of(alloc: Global, shape: Shape) -> Result<Tree, Fail> {
             let (row, other) = (cell(row).row, cell(other).row);
             format!(in alloc; "=IF(A{}>{},A{},{})", row, number, other, number)?
         }
-        Shape::Quote(topic, number) => format!(
-            in alloc;
+        Shape::Quote(topic, number) => format!(in alloc;
             "=IFERROR(RTD(\"{}\",\"\",\"{}\"),-100)+{}",
             server_name(server_of(topic)),
             string_of(topic),

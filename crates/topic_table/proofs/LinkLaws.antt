@@ -55,9 +55,11 @@ link-absent es cell k absent c q = by (same_cell c cell) refl
   where
     none : same_cell c cell ≡ true → has_link es c q ≡ false
     none same = ap (λ found. list_any (nat_eq q) (ids_of found)) (subst (λ z. lookup (same_cell z) es ≡ None) (sym (same_cell_is c cell same)) absent)
+
     kept : (l : Bool) → l ≡ (l && true)
     kept true = refl
     kept false = refl
+
     by : (b : Bool) → same_cell c cell ≡ b → has_link es c q ≡ (has_link es c q && (not b || k q))
     by true same = none same ∙ ap (λ l. l && k q) (sym (none same))
     by false apart = kept (has_link es c q)

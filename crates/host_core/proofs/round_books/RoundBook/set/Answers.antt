@@ -40,7 +40,7 @@ returns-in-Err-CellLimit-clause-step g c answer =
     step_of g.S.RtdServer.state answer old (record old { calc = c.set.new.self }) false false (commands.Set cell content) replies.CellLimit c.if-self.false c.if-self.false
     (λ session limit p noted kept.
     let over = subst (λ book. IsRefusal (limit_fault book cell content) content (faults.CellLimit back)) kept.book.holds.book
-        (subst (IsRefusal (limit_fault old.calc.book.contents cell content) content) c.in-Err-CellLimit.field-0-is c.in-Err-CellLimit.ensures.limits) in record {
+    (subst (IsRefusal (limit_fault old.calc.book.contents cell content) content) c.in-Err-CellLimit.field-0-is c.in-Err-CellLimit.ensures.limits) in record {
       parts = p;
       noted = noted;
       said = sym (cells_reply (terms_with answer session limit) p old.round cell content back over);
@@ -57,7 +57,7 @@ returns-in-Err-FormulaLimit-clause-step g c answer =
     step_of g.S.RtdServer.state answer old (record old { calc = c.set.new.self }) false false (commands.Set cell content) replies.FormulaLimit c.if-self.false c.if-self.false
     (λ session limit p noted kept.
     let over = subst (λ book. IsRefusal (limit_fault book cell content) content (faults.FormulaLimit back)) kept.book.holds.book
-        (subst (IsRefusal (limit_fault old.calc.book.contents cell content) content) c.in-Err-FormulaLimit.field-0-is c.in-Err-FormulaLimit.ensures.limits) in record {
+    (subst (IsRefusal (limit_fault old.calc.book.contents cell content) content) c.in-Err-FormulaLimit.field-0-is c.in-Err-FormulaLimit.ensures.limits) in record {
       parts = p;
       noted = noted;
       said = sym (formulas_reply (terms_with answer session limit) p old.round cell content back over);

@@ -1,8 +1,0 @@
-use Rattle.std.proofs.Common.{◌≡◌, ◌||◌, take}
-use Rattle.cell_refs.specs.declared.grid.Cell.{Cell}
-use Rattle.cell_refs.specs.Cell.{is_among}
-use Rattle.calc_book.proofs.beginning.insert_all.Given as goal
-
--- the cells so far are put in
-abbrev pub invariant-loop-cell : goal.invariant-loop-cell
-invariant-loop-cell l = (q : Cell) → is_among l.all.keys q ≡ (is_among l.fn.all.keys q || is_among (take l.cell-index l.cells) q)
