@@ -4,7 +4,9 @@ mod BothWays
 mod Capitals
 mod CellOrder
 mod Columns
+mod Following
 mod Front
+mod HandleText
 mod Listing
 mod Numbers
 mod Numerals

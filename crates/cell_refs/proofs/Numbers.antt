@@ -53,7 +53,7 @@ number_by_front : (limit : ℕ) (text digits : List ℕ) → digits ≡ take_whi
 unfolding number_at
 number_by_front limit text digits e = rw e refl
 
-decimal_front : (n : ℕ) (rest : List ℕ) → n < 2 ^ 64 → is_ascii_digit (slice_index rest 0) ≡ false → decimal n ≡ take_while is_ascii_digit (decimal n ++ rest)
+pub decimal_front : (n : ℕ) (rest : List ℕ) → n < 2 ^ 64 → is_ascii_digit (slice_index rest 0) ≡ false → decimal n ≡ take_while is_ascii_digit (decimal n ++ rest)
 decimal_front n rest room stops =
     sym (take_while-append is_ascii_digit (decimal n) rest refl (digits_all (decimal n) ∙ digits_decimal numerals n room) stops)
 

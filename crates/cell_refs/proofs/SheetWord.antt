@@ -51,7 +51,7 @@ front_lower text word rest w e =
     let cut : capitals word ≡ codes "SHEET" = ap capitals w ∙ (sym (take-map to_ascii_uppercase 5 text) ∙ ap (take 5) e) in
     sym (map_twice to_ascii_uppercase to_ascii_lowercase lower_upper word) ∙ ap (map to_ascii_lowercase) cut
 
-none_unless : (o : Option (List ℕ)) → ((rest : List ℕ) → o ≡ Some rest → ⊥) → None ≡ o
+pub none_unless : (o : Option (List ℕ)) → ((rest : List ℕ) → o ≡ Some rest → ⊥) → None ≡ o
 none_unless None out = refl
 none_unless (Some rest) out = absurd (out rest refl)
 

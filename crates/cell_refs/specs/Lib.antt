@@ -8,4 +8,5 @@ pub mod RefText
 pub mod Written
 -- What the crate's own functions keep.
 pub mod AreaWalk
+pub mod HandleReading
 pub mod Reading

@@ -5,9 +5,11 @@ ghost use Rattle.std.specs.Char.{is_ascii_digit};
 ghost use Rattle.std.specs.declared.cmp.Ordering.TheVariants.{Less};
 ghost use Rattle.cell_refs.specs.declared.areas.Area.{Area};
 ghost use Rattle.cell_refs.specs.declared.grid.Cell.{Cell};
+ghost use Rattle.cell_refs.specs.declared.handles.Handle.{Handle};
 ghost use Rattle.cell_refs.specs.declared.references.RefText.{RefText};
 ghost use Rattle.cell_refs.specs.Area.{IsArea, IsInside, area_has, cells_of, size_of};
 ghost use Rattle.cell_refs.specs.Cell.{IsCell, cell_cmp};
+ghost use Rattle.cell_refs.specs.Handle.{IsHandle, handle_in, handle_text};
 ghost use Rattle.cell_refs.specs.RefText.{IsReference, cell_at};
 ghost use Rattle.cell_refs.specs.Written.{StandsAt, cell_text, plain_reference, reference_at, reference_text};
 
@@ -36,6 +38,14 @@ pub fn each_cell_has_its_text()
     ensures reference { (r : RefText) → IsReference r → IsAscii (reference_text r) }
     ensures cell { (cell : Cell) → IsCell cell → IsAscii (cell_text cell) }
     ensures one { (a b : Cell) → IsCell a → IsCell b → cell_text a ≡ cell_text b → a ≡ b }
+{}
+
+/// A handle that is written reads back, whatever is read is a handle with this text, and no two are written alike.
+pub fn each_handle_has_its_text()
+    ensures back { (h : Handle) → IsHandle h → handle_in (handle_text h) ≡ Some h }
+    ensures read { (text : List ℕ) (h : Handle) → handle_in text ≡ Some h
+        → (text ≡ handle_text h) × IsHandle h }
+    ensures one { (a b : Handle) → IsHandle a → IsHandle b → handle_text a ≡ handle_text b → a ≡ b }
 {}
 
 /// An area's list has exactly the cells between its corners, in the order of cells and so each once.

@@ -158,7 +158,7 @@ pub(crate) fn number_of(text: &[u8], limit: u64) -> Option<(u64, &[u8])>
 }
 
 /// How many digits stand at the front.
-fn digits_len(text: &[u8]) -> usize
+pub(crate) fn digits_len(text: &[u8]) -> usize
     ensures { result ≡ length (take_while is_ascii_digit text.now) }
 {
     text.iter().take_while(|byte| byte.is_ascii_digit()).count()
@@ -177,7 +177,7 @@ fn value_of(digits: &[u8]) -> Option<u64>
 }
 
 /// The number that digits stand for, where a `u64` holds it.
-fn parse_digits(digits: &[u8]) -> Option<u64>
+pub(crate) fn parse_digits(digits: &[u8]) -> Option<u64>
     requires digits { IsTrue (all_ascii_digits digits.now) }
     requires some { 0 < length digits.now }
     ensures { SomeIff result (digits_value 10 digits.now < 2 ^ 64) (digits_value 10 digits.now) }

@@ -126,6 +126,75 @@ fn written_handles(rt: HostRuntime) -> Result<(), Fail> {
     Ok(())
 }
 
+/// A handle of site 1.
+fn handle(session: u64, round: u64, sheet: u8, row: u32, col: u16) -> Handle {
+    Handle {
+        session,
+        round,
+        cell: Cell { sheet, row, col },
+        site: 1,
+    }
+}
+
+#[test]
+fn texts_of_handles(rt: HostRuntime) {
+    let last = 18_446_744_073_709_551_615;
+    let table: [(&[u8], Handle); 5] = [
+        (b"1:A1#1", handle(1, 1, 1, 1, 1)),
+        (b"2/1:A1#1", handle(2, 1, 1, 1, 1)),
+        (b"0:AB10#1", handle(1, 0, 1, 10, 28)),
+        (
+            b"18446744073709551615/10:Sheet2!A1#1",
+            handle(last, 10, 2, 1, 1),
+        ),
+        (
+            b"18446744073709551615:Sheet64!XFD1048576#1",
+            handle(1, last, 64, 1_048_576, 16_384),
+        ),
+    ];
+    for (text, wanted) in table {
+        assert_eq!(rt; read_handle(text), Some(wanted));
+    }
+    let last_site = Handle {
+        site: 65_535,
+        ..handle(3, 0, 1, 1, 1)
+    };
+    assert_eq!(rt; read_handle(b"3/0:A1#65535"), Some(last_site));
+}
+
+#[test]
+fn texts_of_no_handle(rt: HostRuntime) {
+    let table: [&[u8]; 24] = [
+        b"",
+        b"1:A1",
+        b"1:A1#",
+        b"1:A1#1 ",
+        b" 1:A1#1",
+        b"1:A1#01",
+        b"01:A1#1",
+        b"02/1:A1#1",
+        b"1/1:A1#1",
+        b"0/1:A1#1",
+        b"/1:A1#1",
+        b"2/:A1#1",
+        b"2//1:A1#1",
+        b"2/1/1:A1#1",
+        b"1:A1#65536",
+        b"18446744073709551616:A1#1",
+        b"18446744073709551616/1:A1#1",
+        b"1:a1#1",
+        b"1:$A$1#1",
+        b"1:Sheet1!A1#1",
+        b"1:sheet2!A1#1",
+        b"1:XFE1#1",
+        b"1:A1#-1",
+        b"1:A1:B2#1",
+    ];
+    for text in table {
+        assert_eq!(rt; read_handle(text), None);
+    }
+}
+
 #[test]
 fn an_area_by_rows(rt: HostRuntime) {
     let area = Area::of(&plain(Some(3), 2, 4), &plain(None, 1, 3), 1);

@@ -90,7 +90,7 @@ fn push_column(column: u16, out: &mut Vec<u8>) -> Result<(), Memory>
 }
 
 /// How often the last letter has gone round from A to Z before the column.
-fn rounds_before(column: u16) -> u16
+pub(crate) fn rounds_before(column: u16) -> u16
     ensures { result ≡ rounds_before column }
 {
     column.saturating_sub(1) / 26
