@@ -11,7 +11,7 @@ use Rattle.std.proofs.lemmas.Option.{none-some}
 use Rattle.cell_refs.specs.declared.grid.Cell.{Cell}
 use Rattle.cell_refs.specs.Cell.{same_cell}
 use Rattle.cell_refs.proofs.PublicLaws.{same_cell_is, same_cells}
-use Rattle.topic_table.specs.Linking.{AreLinked, has_link, links_at}
+use Rattle.topic_table.specs.Linking.{AreLinked, has_link}
 use Rattle.topic_table.specs.Table.{KeepsReaders, TableState, has_read, has_reader}
 
 -- the ids of a look-up
