@@ -1,5 +1,5 @@
 //! What no contract says: with ample memory no call is refused. Beside that, examples from outside, and ten thousand
-//! topics that leave.
+//! topics that leave together.
 
 use super::{Cell, Topic, Topics, Value};
 use cell_values::{Name, Text, Texts};
@@ -116,39 +116,40 @@ enum Step {
 
 /// Does a step: whether the answer is the one that is wanted.
 fn is_answered(table: &mut Topics, alloc: Global, step: &Step) -> Result<bool, Fail> {
-    let is_right = match step {
-        Step::Reserve(want) => table.reserve()? == *want,
-        Step::Connect(text, round, want) => connect(table, alloc, text, 5, *round)? == *want,
-        Step::Find(text, want) => find(table, alloc, text)? == *want,
-        Step::Take(id, number, want) => table.take(*id, Value::Num(*number)) == *want,
-        Step::Value(id, number) => has_value(table, *id, *number),
-        Step::HasRead(id, row, want) => table.has_read(*id, cell(*row)) == *want,
-        Step::Readers(id, rows) => has_readers(table, *id, rows),
-        Step::PopUnread(want) => id_out(table.pop_unread()) == *want,
-        Step::PopSince(round, want) => id_out(table.pop_since(*round)) == *want,
-        other => {
-            change(table, alloc, other)?;
-            true
+    match step {
+        Step::Reserve(want) => Ok(table.reserve()? == *want),
+        Step::Connect(text, round, want) => Ok(connect(table, alloc, text, 5, *round)? == *want),
+        Step::Take(id, number, want) => Ok(table.take(*id, Value::Num(*number)) == *want),
+        Step::PopUnread(want) => Ok(id_out(table.pop_unread()) == *want),
+        Step::PopSince(round, want) => Ok(id_out(table.pop_since(*round)) == *want),
+        Step::Find(..) | Step::Value(..) | Step::HasRead(..) | Step::Readers(..) => {
+            is_shown(table, alloc, step)
         }
-    };
-    Ok(is_right)
+        change => is_done(table, alloc, change),
+    }
 }
 
-/// Does a step that answers nothing.
-fn change(table: &mut Topics, alloc: Global, step: &Step) -> Result<(), Fail> {
+/// Whether the table shows what a step wants.
+fn is_shown(table: &Topics, alloc: Global, step: &Step) -> Result<bool, Fail> {
     match step {
-        Step::Read(id, row) => read(table, *id, *row),
-        Step::Start(rows) => start(table, alloc, rows),
-        Step::Keep => {
-            table.keep_round();
-            Ok(())
-        }
-        Step::Restore => {
-            table.drop_round();
-            Ok(())
-        }
-        _ => Ok(()),
+        Step::Find(text, want) => Ok(find(table, alloc, text)? == *want),
+        Step::Value(id, number) => Ok(has_value(table, *id, *number)),
+        Step::HasRead(id, row, want) => Ok(table.has_read(*id, cell(*row)) == *want),
+        Step::Readers(id, rows) => Ok(has_readers(table, *id, rows)),
+        _ => Ok(false),
     }
+}
+
+/// Does a step of readers, which answers nothing: whether it is one.
+fn is_done(table: &mut Topics, alloc: Global, step: &Step) -> Result<bool, Fail> {
+    match step {
+        Step::Read(id, row) => read(table, *id, *row)?,
+        Step::Start(rows) => start(table, alloc, rows)?,
+        Step::Keep => table.keep_round(),
+        Step::Restore => table.drop_round(),
+        _ => return Ok(false),
+    }
+    Ok(true)
 }
 
 /// Does steps on a new table.
@@ -188,6 +189,24 @@ fn a_topic_takes_values(rt: HostRuntime) -> Result<(), Fail> {
 }
 
 #[test]
+fn a_round_that_is_dropped_moves_no_reader(rt: HostRuntime) -> Result<(), Fail> {
+    let steps = [
+        Step::Connect("a", 1, 1),
+        Step::Connect("b", 1, 2),
+        Step::Read(1, 1),
+        Step::Keep,
+        Step::Start(&[1, 9]),
+        Step::HasRead(1, 1, false),
+        Step::Readers(1, &[1]),
+        Step::Read(2, 1),
+        Step::Restore,
+        Step::HasRead(1, 1, true),
+        Step::HasRead(2, 1, false),
+    ];
+    take_steps(&rt, rt.alloc(), &steps)
+}
+
+#[test]
 fn readers_move_between_topics(rt: HostRuntime) -> Result<(), Fail> {
     let steps = [
         Step::Connect("a", 1, 1),
@@ -195,16 +214,6 @@ fn readers_move_between_topics(rt: HostRuntime) -> Result<(), Fail> {
         Step::Read(1, 1),
         Step::Read(2, 2),
         Step::Keep,
-        Step::Readers(1, &[1]),
-        Step::Readers(2, &[2]),
-        Step::Start(&[1, 9]),
-        Step::HasRead(1, 1, false),
-        Step::HasRead(2, 2, true),
-        Step::Readers(1, &[1]),
-        Step::Read(2, 1),
-        Step::Restore,
-        Step::HasRead(1, 1, true),
-        Step::HasRead(2, 1, false),
         Step::Start(&[1]),
         Step::Read(2, 1),
         Step::Keep,
@@ -234,37 +243,51 @@ fn topics_of_a_round_leave_in_order(rt: HostRuntime) -> Result<(), Fail> {
     take_steps(&rt, rt.alloc(), &steps)
 }
 
-/// Connects ten thousand topics, of which one cell reads every other one.
+/// Connects ten thousand topics, each read by a cell of its own.
 fn connect_many(table: &mut Topics, alloc: Global) -> Result<(), Fail> {
-    for n in 0..10_000u32 {
-        let text = format!(in alloc; "{n}")?;
+    for row in 0..10_000u32 {
+        let text = format!(in alloc; "{row}")?;
         let id = connect(table, alloc, text.as_str(), 5, 1)?;
-        if n % 2 == 1 {
-            read(table, id, 1)?;
-        }
+        read(table, id, row)?;
     }
+    table.keep_round();
     Ok(())
 }
 
-/// How many unread topics leave, at most so many.
-fn pop_many(table: &mut Topics) -> u32 {
-    for n in 0..10_000 {
-        if id_out(table.pop_unread()).is_none() {
+/// Has the ten thousand cells read nothing any more.
+fn forget_many(table: &mut Topics, alloc: Global) -> Result<(), Fail> {
+    let mut cells = Vec::new(alloc);
+    for row in 0..10_000u32 {
+        cells.push(cell(row))?;
+    }
+    table.start_round(&cells);
+    table.keep_round();
+    Ok(())
+}
+
+/// How many unread topics leave in the order of their ids.
+fn pop_many(table: &mut Topics) -> u64 {
+    for n in 0..20_000u64 {
+        if id_out(table.pop_unread()) != Some(n + 1) {
             return n;
         }
     }
-    10_000
+    20_000
+}
+
+/// How many of ten thousand topics leave while each is read, and how many once none is.
+fn leave_twice(alloc: Global) -> Result<(u64, u64), Fail> {
+    let mut table = Topics::new(alloc);
+    connect_many(&mut table, alloc)?;
+    let read = pop_many(&mut table);
+    forget_many(&mut table, alloc)?;
+    Ok((read, pop_many(&mut table)))
 }
 
 #[test]
-fn every_other_topic_of_many_leaves(rt: HostRuntime) -> Result<(), Fail> {
-    let alloc = rt.alloc();
-    let mut table = Topics::new(alloc);
-    connect_many(&mut table, alloc)?;
-    table.keep_round();
-    assert_eq!(rt; pop_many(&mut table), 5_000);
-    start(&mut table, alloc, &[1])?;
-    table.keep_round();
-    assert_eq!(rt; pop_many(&mut table), 5_000);
+fn ten_thousand_topics_leave_together(rt: HostRuntime) -> Result<(), Fail> {
+    let (read, unread) = leave_twice(rt.alloc())?;
+    assert_eq!(rt; read, 0);
+    assert_eq!(rt; unread, 10_000);
     Ok(())
 }
