@@ -1,7 +1,7 @@
 -- The calls of added functions, part by part.
 use Rattle.std.proofs.Common.{◌≡◌, ℕ, ◌+◌, ◌≤◌, ℤ, Bool, true, false, cond, List, [], ◌∷◌, ◌++◌, map, length, refl, ap, ◌∙◌, arith}
 use mir.Val.{bool_byte}
-use Rattle.std.specs.Prelude.{is_some}
+use Rattle.std.specs.Prelude.{is_some, option_to_list}
 use Rattle.std.specs.List.{filter_map}
 use Rattle.std.proofs.lemmas.List.Elements.{filter_map-append}
 use Rattle.cell_refs.specs.declared.references.RefText.{RefText}
@@ -61,6 +61,12 @@ sites_of_rtd arguments = sites_of_call callees.Rtd arguments ∙ sites_of_parts 
 
 pub sites_of_added : (name : Name) (arguments : List Node) → sites_named (nodes.Call (callees.Added name) arguments) ≡ name ∷ concat (map sites_named arguments)
 sites_of_added name arguments = sites_of_call (callees.Added name) arguments ∙ ap (λ names. name ∷ names) (sites_of_parts arguments)
+
+-- the names of a call: its own, if it is that of an added function, and those of its arguments
+pub names_of_call : (callee : Callee) (arguments : List Node) → sites_named (nodes.Call callee arguments) ≡ option_to_list (added_name callee) ++ concat (map sites_named arguments)
+names_of_call (callees.BuiltIn f) arguments = sites_of_built_in f arguments
+names_of_call callees.Rtd arguments = sites_of_rtd arguments
+names_of_call (callees.Added name) arguments = sites_of_added name arguments
 
 -- a Boolean as a number
 pub byte_is : (b : Bool) → bool_byte b ≡ cond b 1 0

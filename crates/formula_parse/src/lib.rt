@@ -26,7 +26,7 @@ pub use laws::{
     trees_are_within_limits, what_is_printed_reads_back,
 };
 pub use limits::{LARGEST_AREA, LONGEST_FORMULA, MOST_CALLS, MOST_OPEN};
-pub use naming::{CallTest, any_call, has_rtd_call, names, sites};
+pub use naming::{CallTest, any_call, called_names, has_rtd_call, names, sites};
 pub use nodes::Node;
 pub use operators::Operator;
 pub use parser::parse;

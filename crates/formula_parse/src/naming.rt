@@ -1,7 +1,7 @@
-ghost use Rattle.std.specs.Prelude.{◌≡◌, ◌≤◌, Bool, [], ◌∷◌, ◌++◌, length, map, min, All, IfOk, OnOk};
+ghost use Rattle.std.specs.Prelude.{◌≡◌, ◌≤◌, Bool, [], ◌∷◌, ◌++◌, length, map, min, option_to_list, All, IfOk, OnOk};
 ghost use Rattle.std.specs.List.{list_any};
 ghost use Rattle.cell_refs.specs.Area.{IsArea, size_of};
-ghost use Rattle.formula_parse.specs.Callees.{is_rtd};
+ghost use Rattle.formula_parse.specs.Callees.{added_name, is_rtd};
 ghost use Rattle.formula_parse.specs.declared.callees.Callee.{Callee};
 ghost use Rattle.formula_parse.specs.Tree.{areas_named, calls_of, concat, has_rtd_call, site_count, sites_named};
 
@@ -10,7 +10,7 @@ use super::limits::LARGEST_AREA;
 use super::nodes::Node;
 use super::trees::Tree;
 use cell_refs::{Area, SHEETS};
-use cell_values::Memory;
+use cell_values::{Memory, Name};
 use std::alloc::Global;
 
 /// The areas that a formula on the sheet home names: one for each written reference or area, from
@@ -58,6 +58,61 @@ fn push_area(area: Area, areas: &mut Vec<Area>) -> Result<(), Memory>
     ensures { OnOk result (areas.new.items ≡ areas.old.items ++ area ∷ []) }
 {
     areas.push(area)?;
+    Ok(())
+}
+
+/// The names that a formula calls and that are neither built in nor `RTD`, one for each call, from left to right, in
+/// branches that are taken or not.
+pub fn called_names(alloc: Global, t: &Tree) -> Result<Vec<Name>, Memory>
+    ensures { IfOk result (λ names. names.items ≡ sites_named t.now) }
+{
+    let mut called = Vec::new(alloc);
+    push_names(t.root(), &mut called)?;
+    Ok(called)
+}
+
+/// Adds the names that a part of a formula calls.
+#[cycle(push_names)]
+fn push_names(node: &Node, called: &mut Vec<Name>) -> Result<(), Memory>
+    ensures { OnOk result (called.new.items ≡ called.old.items ++ sites_named node.now) }
+{
+    match node {
+        Node::Number(_)
+        | Node::Text(_)
+        | Node::Error(_)
+        | Node::Boolean(_)
+        | Node::Reference(_)
+        | Node::Area(_, _) => Ok(()),
+        Node::Call { callee, arguments } => {
+            push_name(callee, called)?;
+            push_all_names(arguments.get().as_slice(), called)
+        }
+        Node::Parentheses(inner) => push_names(inner.get(), called),
+        Node::Negation { operand, .. } => push_names(operand.get(), called),
+        Node::Chain { operands, .. } => push_all_names(operands.get().as_slice(), called),
+    }
+}
+
+/// Adds the names that several parts of a formula call.
+#[cycle(push_names)]
+fn push_all_names(nodes: &[Node], called: &mut Vec<Name>) -> Result<(), Memory>
+    ensures { OnOk result (called.new.items
+        ≡ called.old.items ++ concat (map sites_named nodes.now)) }
+{
+    for node in nodes {
+        push_names(node, called)?;
+    }
+    Ok(())
+}
+
+/// Adds the name of an added function.
+fn push_name(callee: &Callee, called: &mut Vec<Name>) -> Result<(), Memory>
+    ensures { OnOk result (called.new.items
+        ≡ called.old.items ++ option_to_list (added_name callee.now)) }
+{
+    if let Callee::Added(name) = callee {
+        called.push(name.copy()?)?;
+    }
     Ok(())
 }
 
