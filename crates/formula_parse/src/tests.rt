@@ -1,5 +1,5 @@
 use super::faults::ParseFault;
-use super::naming::{has_rtd_call, names, sites};
+use super::naming::{called_names, has_rtd_call, names, sites};
 use super::nodes::Node;
 use super::parser::parse;
 use super::printer::print;
@@ -295,6 +295,8 @@ fn sites_are_calls_that_are_not_built_in(rt: HostRuntime) -> Result<(), Fail> {
     for (text, count) in table {
         let tree = parse(rt.alloc(), text)?;
         assert_eq!(rt; sites(&tree), count, "in {text}");
+        let called = called_names(rt.alloc(), &tree)?;
+        assert_eq!(rt; called.len(), usize::from(count), "in {text}");
     }
     Ok(())
 }
