@@ -104,6 +104,13 @@ opening-connects state n id strings value m k k' r s =
     match-cases (bytes_eq n m) (ViewConnects (view_of state k) (view_of state k') id strings × IsCurrent (view_of state k') id strings value) (SameView (view_of state k) (view_of state k'))
       ((view_of state k').opening s ≡ (view_of state k).opening s) r.1 (λ here out. out.0.0.1 s) (λ other same. same.0.1 s)
 
+-- what is published stays
+pub published-connects : {S : Type 0} (state : S → ServerState) (n : List ℕ) (id : ℕ) (strings : Strings) (value : Value) (m : List ℕ) (k k' : ServerParts S)
+    → ConnectsServer state n id strings value m k k' → (s : Strings) → (view_of state k').published s ≡ (view_of state k).published s
+published-connects state n id strings value m k k' r s =
+    match-cases (bytes_eq n m) (ViewConnects (view_of state k) (view_of state k') id strings × IsCurrent (view_of state k') id strings value) (SameView (view_of state k) (view_of state k'))
+      ((view_of state k').published s ≡ (view_of state k).published s) r.1 (λ here out. out.0.0.0 s) (λ other same. same.0.0 s)
+
 -- an id is connected that is the new one, or was
 pended_step : {X : Type 0} (b : Bool) (x : X) (c : Option X) → (b ≡ false → is_some c ≡ true) → is_some (cond b (Some x) c) ≡ true
 pended_step true x c f = refl
@@ -171,18 +178,6 @@ linked-connected {S} state ks ks' table table' round t absent connects came read
   where
     names-turned : (a b : List ℕ) → bytes_eq a b ≡ bytes_eq b a
     names-turned a b = search (rules)
-
--- the values stay where the names, what was at the opening and the taken topics do
-pub values-by : {S : Type 0} (state : S → ServerState) (p p' : RtdParts S) → map known_of p'.servers ≡ map known_of p.servers → ((topic : Topic) → opening_of state p'.servers topic ≡ opening_of state p.servers topic)
-    → filter (λ (x : ConnectedTopic). not (is_of_round p'.is_running p'.round x)) p'.table.topics ≡ filter (λ (x : ConnectedTopic). not (is_of_round p.is_running p.round x)) p.table.topics
-    → p'.is_running ≡ p.is_running → KeepsValues (source_of (rtd_of state p)) (source_of (rtd_of state p'))
-values-by {S} state p p' known opening taken run =
-    let opened : opening_of state p'.servers ≡ opening_of state p.servers = λ i. λ topic. opening topic i in
-    record {
-      snapshot = λ i. λ topic. unwrap_or (lookup (same_topic topic) (map with_value (taken i)))
-        (unwrap_or (option_and_then (λ (o : Topic → Option Value). o topic) (cond (run i) (Some (opened i)) None)) (values.Error errors.Na));
-      served = λ i. λ topic. is_some (cond (run i) (Some (opened i)) None) && knows_topic (known i) topic;
-    }
 
 -- the taken topics stay where a topic is connected in the recalculation that runs
 pub taken-connected : (run : Bool) (round : ℕ) (topics topics' : List ConnectedTopic) (t : ConnectedTopic) → run ≡ true → t.round ≡ round → topics' ≡ topics ++ t ∷ []

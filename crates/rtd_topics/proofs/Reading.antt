@@ -61,15 +61,6 @@ snapshot-absent {S} state p topic absent =
     ap (λ (o : Option Value). unwrap_or o (unwrap_or (option_and_then (λ (f : Topic → Option Value). f topic) (cond p.is_running (Some (opening_of state p.servers)) None)) (values.Error errors.Na)))
       (value-absent (λ (y : ConnectedTopic). not (is_of_round p.is_running p.round y)) topic p.table.topics (id-absent p.table.topics topic absent))
 
--- the values stay where the topics and the servers do
-pub values-same : {S : Type 0} (state : S → ServerState) (p p' : RtdParts S) → p'.servers ≡ p.servers → p'.table.topics ≡ p.table.topics → p'.round ≡ p.round → p'.is_running ≡ p.is_running
-    → KeepsValues (source_of (rtd_of state p)) (source_of (rtd_of state p'))
-values-same {S} state p p' servers topics round running = record {
-  snapshot = λ i. λ topic. unwrap_or (lookup (same_topic topic) (map with_value (filter (λ (t : ConnectedTopic). not (is_of_round (running i) (round i) t)) (topics i))))
-    (unwrap_or (option_and_then (λ (o : Topic → Option Value). o topic) (cond (running i) (Some (opening_of state (servers i))) None)) (values.Error errors.Na));
-  served = λ i. λ topic. is_some (cond (running i) (Some (opening_of state (servers i))) None) && knows_topic (map known_of (servers i)) topic;
-}
-
 -- two topics under one id are the same, and the same topic has one id
 pub same-id : (topics : List ConnectedTopic) → Rises topics → (a b : Topic) (m n : ℕ) → id_of topics a ≡ Some m → id_of topics b ≡ Some n → nat_eq m n ≡ same_topic a b
 same-id topics rises a b m n am bn = split (same_topic a b) refl

@@ -8,7 +8,7 @@ ghost use Rattle.rtd_topics.specs.Parts.{rtd_of};
 ghost use Rattle.rtd_topics.specs.RtdState.{IsRtdState, RunsNone, RunsRound, SameOpening, SamePublished, SameReaders, SameRtd, SameTopics, TakesRead, due_as, reads_one, rtd_snapshot, topics_changed};
 
 use super::leaving::{disconnect_since, disconnect_unread};
-use super::pulls::{changed_ids, readers_of, take_all};
+use super::pulls::{changed_ids, note_pull, readers_of, take_all};
 use super::servers::{
     connect_at, copy_texts, gather_all, is_any_flagged, open_all, publish_at,
     raise_flag,
@@ -116,6 +116,21 @@ impl<S: RtdServer + Drop> RtdTopics<S> {
         ensures { IsRtdState (rtd_of S.state self.now) }
     {
         self.table.facts();
+    }
+
+    /// Whether a recalculation runs.
+    pub fn is_running(&self) -> bool
+        ensures runs { result ≡ true → RunsRound (rtd_of S.state self.now) }
+        ensures none { result ≡ false → RunsNone (rtd_of S.state self.now) }
+    {
+        self.is_running
+    }
+
+    /// The number of the last recalculation that began.
+    pub fn round(&self) -> u64
+        ensures { result ≡ (rtd_of S.state self.now).round }
+    {
+        self.round
     }
 
     /// Whether a server is known.
@@ -238,7 +253,29 @@ impl<S: RtdServer + Drop> RtdTopics<S> {
             cell) }
         ensures prepared { OnOk result (IsPrepared S.state self.new) }
     {
-        gather_all(&mut self.servers)?;
+        self.gather()?;
+        self.pull_news()
+    }
+
+    /// Has the flagged servers give their news. It changes nothing that shows.
+    fn gather(&mut self) -> Result<(), Memory>
+        ensures same { SameRtd (rtd_of S.state self.old) (rtd_of S.state self.new) }
+        ensures prepared { OnOk result (IsPrepared S.state self.new) }
+    {
+        gather_all(&mut self.servers)
+    }
+
+    /// Tells what a pull takes, where all was given.
+    fn pull_news(&self) -> Result<PullNews, Memory>
+        requires none { RunsNone (rtd_of S.state self.now) }
+        requires prepared { IsPrepared S.state self.now }
+        ensures changed { IfOk result (λ news. news.changed
+            ≡ length (topics_changed (rtd_of S.state self.now))) }
+        ensures readers { IfOk result (λ news. (cell : OneCell) → is_among news.readers.items cell
+            ≡ reads_one (rtd_of S.state self.now) (topics_changed (rtd_of S.state self.now))
+            cell) }
+    {
+        self.table.facts();
         let ids = changed_ids(self.alloc, &self.servers, &self.table)?;
         let readers = readers_of(self.alloc, &self.table, ids.as_slice())?;
         Ok(PullNews {
@@ -263,10 +300,9 @@ impl<S: RtdServer + Drop> RtdTopics<S> {
         ensures read { SameReaders (rtd_of S.state self.old) (rtd_of S.state self.new) }
         ensures round { (rtd_of S.state self.new).round ≡ (rtd_of S.state self.old).round }
     {
+        self.table.facts();
         take_all(&mut self.servers, &mut self.table);
-        if let Moment::At(now) = moment {
-            self.throttle.pulled(*now);
-        }
+        note_pull(&mut self.throttle, moment);
     }
 
     /// A recalculation begins, with a number greater than those before. What these cells have read is forgotten for it.
