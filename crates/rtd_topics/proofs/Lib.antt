@@ -15,5 +15,5 @@ pub mod TopicFacts
 pub mod Views
 pub mod Standing
 pub mod Pulling
-pub mod PullNews
+pub mod Telling
 pub mod StateFacts

@@ -11,7 +11,8 @@ use Rattle.std.proofs.lemmas.Option.{none-some}
 use Rattle.cell_refs.specs.declared.grid.Cell.{Cell}
 use Rattle.cell_refs.specs.Cell.{same_cell}
 use Rattle.cell_refs.proofs.PublicLaws.{same_cell_is, same_cells}
-use Rattle.topic_table.specs.Linking.{has_link, links_at}
+use Rattle.topic_table.specs.Linking.{AreLinked, has_link, links_at}
+use Rattle.topic_table.specs.Table.{KeepsReaders, TableState, has_read, has_reader}
 
 -- the ids of a look-up
 abbrev ids_of : Option (List ℕ) → List ℕ
@@ -63,3 +64,45 @@ link-absent es cell k absent c q = by (same_cell c cell) refl
     by : (b : Bool) → same_cell c cell ≡ b → has_link es c q ≡ (has_link es c q && (not b || k q))
     by true same = none same ∙ ap (λ l. l && k q) (sym (none same))
     by false apart = kept (has_link es c q)
+
+-- a reading is noted for the cell
+pub link-read : (links : List (Cell × List ℕ)) (table : TableState) → AreLinked links table → (cell c : Cell) (q : ℕ) → has_read table q c ≡ true → same_cell c cell ≡ true → has_link links cell q ≡ true
+link-read links table linked cell c q read same =
+    subst (λ z. has_link links z q ≡ true) (same_cell_is c cell same) (linked q c (or_second (has_reader table q c) (has_read table q c) read))
+  where
+    or_second : (a b : Bool) → b ≡ true → (a || b) ≡ true
+    or_second true b e = refl
+    or_second false b e = e
+
+-- what is forgotten at the noted ids is forgotten at all
+pub forgotten-noted : (x l s : Bool) → (x ≡ true → s ≡ true → l ≡ true) → (x && not (l && s)) ≡ (x && not s)
+forgotten-noted false l s noted = refl
+forgotten-noted true true true noted = refl
+forgotten-noted true true false noted = refl
+forgotten-noted true false false noted = refl
+forgotten-noted true false true noted = sym (noted refl refl)
+
+-- a link stays where it is needed: of the cell that was cleaned where it is a kept reader, of others always
+stays : (l s k r x : Bool) → ((r || x) ≡ true → l ≡ true) → (s ≡ true → k ≡ r) → (r || (x && not s)) ≡ true → (l && (not s || k)) ≡ true
+stays true false k r x linked same reads = refl
+stays false false k true x linked same reads = linked refl
+stays false false k false true linked same reads = linked refl
+stays false false k false false linked same reads = reads
+stays true true k true x linked same reads = same refl
+stays true true k false true linked same reads = same refl ∙ reads
+stays true true k false false linked same reads = same refl ∙ reads
+stays false true k true x linked same reads = linked refl
+stays false true k false true linked same reads = linked refl
+stays false true k false false linked same reads = reads
+
+-- a cell that forgot its readings is linked once it is cleaned, and the others as before
+pub linked-cleaned : (links cleaned : List (Cell × List ℕ)) (old new : TableState) (cell : Cell) → AreLinked links old → KeepsReaders old new
+    → ((q : ℕ) (c : Cell) → has_read new q c ≡ (has_read old q c && not (same_cell c cell)))
+    → ((c : Cell) (q : ℕ) → has_link cleaned c q ≡ (has_link links c q && (not (same_cell c cell) || has_reader new q cell)))
+    → AreLinked cleaned new
+linked-cleaned links cleaned old new cell linked readers running clean q c reads =
+    clean c q
+    ∙ stays (has_link links c q) (same_cell c cell) (has_reader new q cell) (has_reader new q c) (has_read old q c)
+    (λ e. linked q c (sym (ap (λ b. b || has_read old q c) (readers q c)) ∙ e))
+    (λ same. ap (λ z. has_reader new q z) (sym (same_cell_is c cell same)))
+    (sym (ap (λ b. has_reader new q c || b) (running q c)) ∙ reads)

@@ -2,7 +2,7 @@ use Rattle.std.proofs.Common.{subst}
 use Rattle.rtd_topics.specs.Parts.{KeepsServer, RtdParts, rtd_of}
 use Rattle.rtd_topics.specs.RtdState.{SameRtd}
 use Rattle.rtd_topics.proofs.Linking.{linked-kept}
-use Rattle.rtd_topics.proofs.PullNews.{same-gathered}
+use Rattle.rtd_topics.proofs.Telling.{same-gathered}
 use Rattle.rtd_topics.proofs.ServerLists.{follows-zip}
 use Rattle.rtd_topics.proofs.Views.{link-kept}
 use Rattle.rtd_topics.proofs.topics.RtdTopics.gather.Goals as goal

@@ -1,4 +1,4 @@
-use Rattle.std.proofs.Common.{◌≡◌, Bool, Some, None, cond, false, ap, subst, sym, ◌∙◌}
+use Rattle.std.proofs.Common.{◌≡◌, Bool, Some, None, cond, false, List, [], ap, subst, sym, ◌∙◌}
 use Rattle.std.specs.Prelude.{All, map}
 use Rattle.rtd_topics.specs.Parts.{IsLinked, IsPreparedServer, RtdParts, known_of, opening_of, published_of, rtd_of, throttle_of, topic_has}
 use Rattle.rtd_topics.specs.RtdState.{with_value_pulled}

@@ -28,7 +28,7 @@ use Rattle.known_servers.specs.Server.{ServerParts}
 use Rattle.rtd_server.specs.Server.{ServerState}
 use Rattle.workbook.specs.Pulling.{gives_values}
 use Rattle.rtd_topics.specs.Parts.{IsLinked, IsPrepared, IsPreparedServer, KeepsServer, RtdParts, differs, is_news, is_news_of_one, is_of_round, opening_of, rtd_of, server_named, sorted_news, topic_has, with_value}
-use Rattle.rtd_topics.specs.RtdState.{RtdState, SameOpening, SameRtd, is_changed, reads_one, topics_changed, value_pulled}
+use Rattle.rtd_topics.specs.RtdState.{RtdState, SameRtd, is_changed, reads_one, topics_changed, value_pulled}
 use Rattle.rtd_topics.proofs.Adding.{same-opening_added}
 use Rattle.rtd_topics.proofs.Linking.{opening-kept, published-kept}
 use Rattle.rtd_topics.proofs.Pulling.{all-apart, all-at, any-each, any-named, pulled-at}
@@ -264,9 +264,3 @@ same-gathered {S} state p ks' keeps =
         round = refl;
       };
     }
-
--- where nothing ran nothing runs
-pub rest-kept : (a b : Option (Topic → Option Value)) → SameOpening a b → a ≡ None → b ≡ None
-rest-kept None None same rests = refl
-rest-kept None (Some f) same rests = absurd same
-rest-kept (Some f) b same rests = absurd (cc rests)
