@@ -52,8 +52,8 @@ all-named {S} (k ∷ ks) once =
     let none = none-of k.name ks parts.0 in
     let rest = all-named ks parts.1 in
     All-cons (λ (x : ServerParts S). server_named (k ∷ ks) x.name ≡ Some x) k ks
-      (ap (λ b. cond b (Some k) (server_named ks k.name)) (itself k.name))
-      (λ j d below. ap (λ b. cond b (Some k) (server_named ks (get_or ks j d).name)) (names-turned (get_or ks j d).name k.name ∙ none j d below) ∙ rest j d below)
+    (ap (λ b. cond b (Some k) (server_named ks k.name)) (itself k.name))
+    (λ j d below. ap (λ b. cond b (Some k) (server_named ks (get_or ks j d).name)) (names-turned (get_or ks j d).name k.name ∙ none j d below) ∙ rest j d below)
 
 -- one of the servers has this name and passes where the one of the name passes
 pub any-named : {S : Type 0} (f : ServerParts S → Bool) (n : List ℕ) (ks : List (ServerParts S)) → IsDistinct bytes_eq (names_of ks)
@@ -63,11 +63,12 @@ any-named {S} f n (k ∷ ks) once =
     let parts = distinct-parts bytes_eq k.name (names_of ks) once in
     let rest = any-named f n ks parts.1 in
     split (bytes_eq n k.name) rest
-      (λ here. is-none (server_named ks n) (found-named ks n ∙ ap (λ m. list_any (bytes_eq m) (names_of ks)) (equal_names n k.name here) ∙ parts.0)) refl
+    (λ here. is-none (server_named ks n) (found-named ks n ∙ ap (λ m. list_any (bytes_eq m) (names_of ks)) (equal_names n k.name here) ∙ parts.0)) refl
   where
     last : (b : Bool) → (b || false) ≡ b
     last true = refl
     last false = refl
+
     split : (b : Bool) → list_any (λ (k : ServerParts S). bytes_eq n k.name && f k) ks ≡ option_map_or f (server_named ks n) false → (b ≡ true → server_named ks n ≡ None) → bytes_eq n k.name ≡ b
         → ((b && f k) || list_any (λ (k : ServerParts S). bytes_eq n k.name && f k) ks) ≡ option_map_or f (cond b (Some k) (server_named ks n)) false
     split true rest none is = ap (λ b. f k || b) (rest ∙ ap (λ (o : Option (ServerParts S)). option_map_or f o false) (none refl)) ∙ last (f k)
@@ -92,6 +93,7 @@ gives-named {S} n ks once = each ks ∙ any-named (λ (k : ServerParts S). k.fla
     both true false = refl
     both false true = refl
     both false false = refl
+
     each : (ks : List (ServerParts S)) → gives_values (map known_of ks) [] n ≡ list_any (λ (k : ServerParts S). bytes_eq n k.name && k.flag) ks
     each [] = refl
     each (k ∷ ks) = λ i. both k.flag (bytes_eq n k.name) i || each ks i
@@ -108,12 +110,12 @@ pub news-apart : {S : Type 0} (state : S → ServerState) (ks : List (ServerPart
 news-apart {S} state ks table round run id t k linked at named prepared flagged apart =
     let gathered : IsGathered state k = prepared flagged in
     let strings : strings_for table.topics k.name id ≡ None =
-      ap (option_and_then (λ (x : ConnectedTopic). cond (bytes_eq k.name x.topic.server) (Some x.topic.strings) None)) at
-      ∙ ap (λ b. cond b (Some t.topic.strings) None) (names-turned k.name t.topic.server ∙ apart) in
+    ap (option_and_then (λ (x : ConnectedTopic). cond (bytes_eq k.name x.topic.server) (Some x.topic.strings) None)) at
+    ∙ ap (λ b. cond b (Some t.topic.strings) None) (names-turned k.name t.topic.server ∙ apart) in
     sym (pending-gathered state k gathered id)
     ∙ is-none ((view_of state k).pending id)
-      (not-so (is_some ((view_of state k).pending id)) (is_some ((view_of state k).connected id)) (linked.pended k.name k id named)
-        (ap is_some (linked.connected k.name k named id ∙ strings)))
+    (not-so (is_some ((view_of state k).pending id)) (is_some ((view_of state k).connected id)) (linked.pended k.name k id named)
+    (ap is_some (linked.connected k.name k named id ∙ strings)))
 
 -- no news for a topic by a server of another name, of each server
 pub all-apart : {S : Type 0} (state : S → ServerState) (ks : List (ServerParts S)) (table : TableState) (round : ℕ) (run : Bool) (id : ℕ) (t : ConnectedTopic)
@@ -129,7 +131,7 @@ pub pulled-at : {S : Type 0} (state : S → ServerState) (p : RtdParts S) (id : 
     → value_pulled (rtd_of state p) (with_value t) ≡ cond k.flag (unwrap_or (sorted_news k id) t.value) t.value
 pulled-at {S} state p id t k linked prepared at found =
     (λ i. cond ((gives-named t.topic.server p.servers linked.once ∙ ap (λ (o : Option (ServerParts S)). option_map_or (λ (x : ServerParts S). x.flag) o false) found) i)
-      (unwrap_or (ap (option_and_then (λ (x : ServerParts S). (view_of state x).published t.topic.strings)) found i) t.value) t.value)
+    (unwrap_or (ap (option_and_then (λ (x : ServerParts S). (view_of state x).published t.topic.strings)) found i) t.value) t.value)
     ∙ by k.flag (λ on. linked.current id t k at found ∙ ap (λ (o : Option Value). unwrap_or o t.value) (pending-gathered state k (all-found (IsPreparedServer state) (has_name t.topic.server) p.servers k prepared found on) id))
   where
     by : (b : Bool) → (b ≡ true → unwrap_or ((view_of state k).published t.topic.strings) t.value ≡ unwrap_or (sorted_news k id) t.value)
@@ -144,11 +146,12 @@ all-at (x ∷ xs) rises =
     let later = first-pairs (λ (a b : ConnectedTopic). a.id < b.id) x xs rises in
     let rest = all-at xs (other-pairs (λ (a b : ConnectedTopic). a.id < b.id) x xs rises) in
     All-cons (λ (t : ConnectedTopic). topic_at (x ∷ xs) t.id ≡ Some t) x xs
-      (ap (λ b. cond b (Some x) (topic_at xs x.id)) (same x.id))
-      (λ j d below. ap (λ b. cond b (Some x) (topic_at xs (get_or xs j d).id)) (differ (get_or xs j d).id x.id (later j d below)) ∙ rest j d below)
+    (ap (λ b. cond b (Some x) (topic_at xs x.id)) (same x.id))
+    (λ j d below. ap (λ b. cond b (Some x) (topic_at xs (get_or xs j d).id)) (differ (get_or xs j d).id x.id (later j d below)) ∙ rest j d below)
   where
     same : (n : ℕ) → nat_eq n n ≡ true
     same n = search (rules)
+
     differ : (a b : ℕ) → b < a → nat_eq a b ≡ false
     differ a b less = search (rules)
 
@@ -187,12 +190,13 @@ after-at {S} n id (k ∷ ks) once apart value =
     let Q : ServerParts S → Type 0 = λ (k : ServerParts S). k.flag ≡ true → bytes_eq n k.name ≡ false → sorted_news k id ≡ None in
     after-at n id ks parts.1 (All-tail Q k ks apart) (cond k.flag (unwrap_or (sorted_news k id) value) value)
     ∙ split (bytes_eq n k.name)
-      (λ here. is-none (server_named ks n) (found-named ks n ∙ ap (λ m. list_any (bytes_eq m) (names_of ks)) (equal_names n k.name here) ∙ parts.0))
-      (λ other. stays k.flag (sorted_news k id) (λ on. All-head Q k ks apart on other))
+    (λ here. is-none (server_named ks n) (found-named ks n ∙ ap (λ m. list_any (bytes_eq m) (names_of ks)) (equal_names n k.name here) ∙ parts.0))
+    (λ other. stays k.flag (sorted_news k id) (λ on. All-head Q k ks apart on other))
   where
     stays : (b : Bool) (o : Option Value) → (b ≡ true → o ≡ None) → cond b (unwrap_or o value) value ≡ value
     stays true o none = ap (λ (p : Option Value). unwrap_or p value) (none refl)
     stays false o none = refl
+
     split : (b : Bool) → (b ≡ true → server_named ks n ≡ None) → (b ≡ false → cond k.flag (unwrap_or (sorted_news k id) value) value ≡ value)
         → option_map_or (λ (x : ServerParts S). cond x.flag (unwrap_or (sorted_news x id) (cond k.flag (unwrap_or (sorted_news k id) value) value)) (cond k.flag (unwrap_or (sorted_news k id) value) value)) (server_named ks n) (cond k.flag (unwrap_or (sorted_news k id) value) value)
         ≡ option_map_or (λ (x : ServerParts S). cond x.flag (unwrap_or (sorted_news x id) value) value) (cond b (Some k) (server_named ks n)) value
@@ -216,11 +220,12 @@ taken-pulled {S} state p rises linked prepared =
     ap (map with_value) (each-after p.servers p.table.topics)
     ∙ map-twice p.table.topics
     ∙ map-each (λ (t : ConnectedTopic). (t.topic, value_after p.servers t.id t.value)) (λ (t : ConnectedTopic). (t.topic, value_pulled (rtd_of state p) (with_value t))) p.table.topics
-      (λ j d below. same (get_or p.table.topics j d) (all-at p.table.topics rises j d below) (server_named p.servers (get_or p.table.topics j d).topic.server) refl)
+    (λ j d below. same (get_or p.table.topics j d) (all-at p.table.topics rises j d below) (server_named p.servers (get_or p.table.topics j d).topic.server) refl)
   where
     map-twice : (ts : List ConnectedTopic) → map with_value (map (topic_after p.servers) ts) ≡ map (λ (t : ConnectedTopic). (t.topic, value_after p.servers t.id t.value)) ts
     map-twice [] = refl
     map-twice (t ∷ ts) = ap (λ es. (t.topic, value_after p.servers t.id t.value) ∷ es) (map-twice ts)
+
     same : (t : ConnectedTopic) → topic_at p.table.topics t.id ≡ Some t → (o : Option (ServerParts S)) → server_named p.servers t.topic.server ≡ o
         → ◌≡◌ {A = Topic × Value} (t.topic, value_after p.servers t.id t.value) (t.topic, value_pulled (rtd_of state p) (with_value t))
     same t at None found = absurd (cc (sym (linked.served t.id t at) ∙ ap is_some found))
@@ -245,6 +250,7 @@ was-there ks topics topics' id t' is at' =
   where
     one : (x y : ConnectedTopic) → Some x ≡ Some y → x ≡ y
     one x y e = cc e
+
     by : (o : Option ConnectedTopic) → topic_at topics id ≡ o → option_map (topic_after ks) o ≡ Some t' → (t : ConnectedTopic) × ((topic_at topics id ≡ Some t) × (topic_after ks t ≡ t'))
     by None at e = absurd (cc e)
     by (Some t) at e = (t, (at, one (topic_after ks t) t' e))
@@ -282,6 +288,7 @@ current-pulled {S} state k k' id strings value takes prepared current =
     twice : (o : Option Value) → unwrap_or o (unwrap_or o value) ≡ unwrap_or o value
     twice None = refl
     twice (Some v) = refl
+
     by : (b : Bool) → (b ≡ true → unwrap_or ((view_of state k).published strings) value ≡ unwrap_or (sorted_news k id) value)
         → unwrap_or ((view_of state k).published strings) (cond b (unwrap_or (sorted_news k id) value) value)
         ≡ unwrap_or (cond b None ((view_of state k).pending id)) (cond b (unwrap_or (sorted_news k id) value) value)
@@ -298,31 +305,31 @@ linked-pulled {S} state ks ks' table table' round takes topics others prepared l
     record {
       once = once-kept (names_of ks) (names_of ks') follows.names linked.once;
       connected = λ name k' e' id.
-        let old = both-new (R name) (server_named ks name) (server_named ks' name) k' (follows.each name) e' in
-        ap (λ (s : S). (state s).connected id) old.1.1.2 ∙ linked.connected name old.0 old.1.0 id ∙ sym (strings-after ks table.topics table'.topics name id topics);
+          let old = both-new (R name) (server_named ks name) (server_named ks' name) k' (follows.each name) e' in
+          ap (λ (s : S). (state s).connected id) old.1.1.2 ∙ linked.connected name old.0 old.1.0 id ∙ sym (strings-after ks table.topics table'.topics name id topics);
       served = λ id t' at'.
-        let t = was-there ks table.topics table'.topics id t' topics at' in
-        both-found (R t'.topic.server) (server_named ks t'.topic.server) (server_named ks' t'.topic.server) (follows.each t'.topic.server)
-        ∙ ap (λ (x : ConnectedTopic). is_some (server_named ks x.topic.server)) (sym t.1.1) ∙ linked.served id t.0 t.1.0;
+          let t = was-there ks table.topics table'.topics id t' topics at' in
+          both-found (R t'.topic.server) (server_named ks t'.topic.server) (server_named ks' t'.topic.server) (follows.each t'.topic.server)
+          ∙ ap (λ (x : ConnectedTopic). is_some (server_named ks x.topic.server)) (sym t.1.1) ∙ linked.served id t.0 t.1.0;
       current = λ id t' k' at' e'.
-        let t = was-there ks table.topics table'.topics id t' topics at' in
-        let old = both-new (R t'.topic.server) (server_named ks t'.topic.server) (server_named ks' t'.topic.server) k' (follows.each t'.topic.server) e' in
-        let found : server_named ks t.0.topic.server ≡ Some old.0 = ap (λ (x : ConnectedTopic). server_named ks x.topic.server) t.1.1 ∙ old.1.0 in
-        let here : t.0.id ≡ id = id-found table.topics id t.0 t.1.0 in
-        let value : value_after ks t.0.id t.0.value ≡ cond old.0.flag (unwrap_or (sorted_news old.0 id) t.0.value) t.0.value =
+          let t = was-there ks table.topics table'.topics id t' topics at' in
+          let old = both-new (R t'.topic.server) (server_named ks t'.topic.server) (server_named ks' t'.topic.server) k' (follows.each t'.topic.server) e' in
+          let found : server_named ks t.0.topic.server ≡ Some old.0 = ap (λ (x : ConnectedTopic). server_named ks x.topic.server) t.1.1 ∙ old.1.0 in
+          let here : t.0.id ≡ id = id-found table.topics id t.0 t.1.0 in
+          let value : value_after ks t.0.id t.0.value ≡ cond old.0.flag (unwrap_or (sorted_news old.0 id) t.0.value) t.0.value =
           ap (λ n. value_after ks n t.0.value) here ∙ value-after_at state ks table round false id t.0 old.0 linked prepared t.1.0 found in
-        subst (λ (x : ConnectedTopic). IsCurrent (view_of state k') id x.topic.strings x.value) t.1.1
+          subst (λ (x : ConnectedTopic). IsCurrent (view_of state k') id x.topic.strings x.value) t.1.1
           (subst (λ (v : Value). IsCurrent (view_of state k') id t.0.topic.strings v) (sym value)
-            (current-pulled state old.0 k' id t.0.topic.strings t.0.value old.1.1 (all-found (IsPreparedServer state) (has_name t'.topic.server) ks old.0 prepared old.1.0)
-              (linked.current id t.0 old.0 t.1.0 found)));
+          (current-pulled state old.0 k' id t.0.topic.strings t.0.value old.1.1 (all-found (IsPreparedServer state) (has_name t'.topic.server) ks old.0 prepared old.1.0)
+          (linked.current id t.0 old.0 t.1.0 found)));
       rounds = All-same (λ (t : ConnectedTopic). t.round ≤ round) table'.topics (map (topic_after ks) table.topics) (topics ∙ each-after ks table.topics)
-        (All-map (λ (t : ConnectedTopic). t.round ≤ round) (topic_after ks) table.topics linked.rounds);
+          (All-map (λ (t : ConnectedTopic). t.round ≤ round) (topic_after ks) table.topics linked.rounds);
       unread = λ id t cell at of. absurd (cc of);
       opened = λ id t at of. absurd (cc of);
       pended = λ name k' id e' some.
-        let old = both-new (R name) (server_named ks name) (server_named ks' name) k' (follows.each name) e' in
-        ap (λ (s : S). is_some ((state s).connected id)) old.1.1.2
-        ∙ linked.pended name old.0 id old.1.0
+          let old = both-new (R name) (server_named ks name) (server_named ks' name) k' (follows.each name) e' in
+          ap (λ (s : S). is_some ((state s).connected id)) old.1.1.2
+          ∙ linked.pended name old.0 id old.1.0
           (pends old.0.flag ((view_of state old.0).pending id) (ap is_some (sym (pending-pulled state old.0 k' old.1.1 (all-found (IsPreparedServer state) (has_name name) ks old.0 prepared old.1.0) id)) ∙ some));
       rest = λ off id cell. running-readings table table' others.readings id cell ∙ linked.rest off id cell ∙ sym (kept-readings table table' others.readings id cell);
     }

@@ -31,10 +31,10 @@ pub record GivesSame {S : Type 0} (state : S → ServerState) (p p' : RtdParts S
 pub values-kept : {S : Type 0} (state : S → ServerState) (p p' : RtdParts S) → GivesSame state p p' → KeepsValues (source_of (rtd_of state p)) (source_of (rtd_of state p'))
 values-kept {S} state p p' same =
     let opened : cond p'.is_running (Some (opening_of state p'.servers)) None ≡ cond p.is_running (Some (opening_of state p.servers)) None =
-      λ i. cond (same.running i) (Some (λ topic. same.opening topic i)) None in
+    λ i. cond (same.running i) (Some (λ topic. same.opening topic i)) None in
     record {
       snapshot = λ i. λ topic. unwrap_or (lookup (same_topic topic) (map with_value (same.taken i)))
-        (unwrap_or (option_and_then (λ (o : Topic → Option Value). o topic) (opened i)) (values.Error errors.Na));
+          (unwrap_or (option_and_then (λ (o : Topic → Option Value). o topic) (opened i)) (values.Error errors.Na));
       served = λ i. λ topic. is_some (opened i) && knows_topic (same.known i) topic;
       standing = λ i. record {
         servers = same.known i;

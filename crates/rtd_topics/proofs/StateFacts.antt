@@ -47,11 +47,12 @@ once-listed : (topics : List ConnectedTopic) → StandOnce topics → IsDistinct
 unfolding IsDistinct
 once-listed [] once = tt
 once-listed (t ∷ ts) once =
-    let others = first-pairs (λ (a b : ConnectedTopic). same_topic a.topic b.topic ≡ false) t ts once in
-    (recursion_from_All (λ (topic : Topic). same_topic t.topic topic ≡ false) (keys_of (map with_value ts))
-      (All-map (λ (topic : Topic). same_topic t.topic topic ≡ false) (λ (e : Topic × Value). e.0) (map with_value ts)
-        (All-map (λ (e : Topic × Value). same_topic t.topic e.0 ≡ false) with_value ts others)),
-    once-listed ts (other-pairs (λ (a b : ConnectedTopic). same_topic a.topic b.topic ≡ false) t ts once))
+    let others = first-pairs (λ (a b : ConnectedTopic). same_topic a.topic b.topic ≡ false) t ts once in (
+      recursion_from_All (λ (topic : Topic). same_topic t.topic topic ≡ false) (keys_of (map with_value ts))
+          (All-map (λ (topic : Topic). same_topic t.topic topic ≡ false) (λ (e : Topic × Value). e.0) (map with_value ts)
+          (All-map (λ (e : Topic × Value). same_topic t.topic e.0 ≡ false) with_value ts others)),
+      once-listed ts (other-pairs (λ (a b : ConnectedTopic). same_topic a.topic b.topic ≡ false) t ts once),
+    )
 
 -- where servers and table are linked, all this holds
 pub is-state : {S : Type 0} (state : S → ServerState) (p : RtdParts S) → Rises p.table.topics → StandOnce p.table.topics → IsLinked state p.servers p.table p.round p.is_running → IsRtdState (rtd_of state p)
@@ -63,9 +64,9 @@ is-state {S} state p rises once linked =
       taken = λ topic some. let t = taken-found q topic p.table.topics some in known-at state p topic t.0 rises linked t.1;
       taken_once = once-listed (filter q p.table.topics) (AllPairs-filter (λ (a b : ConnectedTopic). same_topic a.topic b.topic ≡ false) q p.table.topics once);
       readers = λ topic cell reads.
-        let t = has-true (has_reader p.table) p.table.topics topic cell reads in
-        ap is_some (value-kept q topic p.table.topics t.0 once t.1.0)
-        ∙ not-of_round (is_of_round p.is_running p.round t.0) t.0.value
+          let t = has-true (has_reader p.table) p.table.topics topic cell reads in
+          ap is_some (value-kept q topic p.table.topics t.0 once t.1.0)
+          ∙ not-of_round (is_of_round p.is_running p.round t.0) t.0.value
           (λ of. sym t.1.1 ∙ linked.unread t.0.id t.0 cell (at-self p.table.topics rises (λ (y : ConnectedTopic). same_topic topic y.topic) t.0 t.1.0) of);
       reading = λ topic cell reads. let t = has-true (has_read p.table) p.table.topics topic cell reads in known-at state p topic t.0 rises linked t.1.0;
     }
@@ -80,7 +81,7 @@ unfolding IsDistinct
 linked-none {S} state ks table round no_servers no_topics no_readings =
     let at : table ≡ record { topics = []; readings = []; greatest = table.greatest; room = table.room } = λ i. record { topics = no_topics i; readings = no_readings i; greatest = table.greatest; room = table.room } in
     subst (λ (t : TableState). IsLinked state ks t round false) (sym at)
-      (subst (λ (xs : List (ServerParts S)). IsLinked state xs (record { topics = []; readings = []; greatest = table.greatest; room = table.room }) round false) (sym no_servers) (empty table.greatest table.room))
+    (subst (λ (xs : List (ServerParts S)). IsLinked state xs (record { topics = []; readings = []; greatest = table.greatest; room = table.room }) round false) (sym no_servers) (empty table.greatest table.room))
   where
     empty : (greatest room : ℕ) → IsLinked state [] (record { topics = []; readings = []; greatest = greatest; room = room }) round false
     empty greatest room = record {

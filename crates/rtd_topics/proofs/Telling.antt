@@ -60,13 +60,14 @@ pub news-at : {S : Type 0} (state : S → ServerState) (ks : List (ServerParts S
 news-at {S} state ks table round run id t k linked prepared at found =
     let apart = all-apart state ks table round run id t linked at prepared in
     any-each (λ (x : ServerParts S). is_news_of_one x table.topics id) (λ (x : ServerParts S). bytes_eq t.topic.server x.name && is_news_of_one x table.topics id) ks
-      (λ j d below. own (get_or ks j d) (apart j d below) (bytes_eq t.topic.server (get_or ks j d).name) refl)
+    (λ j d below. own (get_or ks j d) (apart j d below) (bytes_eq t.topic.server (get_or ks j d).name) refl)
     ∙ any-named (λ (x : ServerParts S). is_news_of_one x table.topics id) t.topic.server ks linked.once
     ∙ ap (λ (o : Option (ServerParts S)). option_map_or (λ (x : ServerParts S). is_news_of_one x table.topics id) o false) found
   where
     none : (b : Bool) (o : Option Value) → (b ≡ true → o ≡ None) → (b && option_map_or (λ (v : Value). has_other_value table.topics id v) o false) ≡ false
     none true o gone = ap (λ (p : Option Value). option_map_or (λ (v : Value). has_other_value table.topics id v) p false) (gone refl)
     none false o gone = refl
+
     own : (x : ServerParts S) → (x.flag ≡ true → bytes_eq t.topic.server x.name ≡ false → sorted_news x id ≡ None) → (b : Bool) → bytes_eq t.topic.server x.name ≡ b
         → is_news_of_one x table.topics id ≡ (b && is_news_of_one x table.topics id)
     own x apart true here = refl
@@ -95,15 +96,18 @@ news-passing {S} state p linked prepared q = by (topic_at p.table.topics q) refl
     no_value : (o : Option Value) → option_map_or (λ (v : Value). false) o false ≡ false
     no_value None = refl
     no_value (Some v) = refl
+
     never : (b : Bool) → (b && false) ≡ false
     never true = refl
     never false = refl
+
     served : (t : ConnectedTopic) → topic_at p.table.topics q ≡ Some t → (o : Option (ServerParts S)) → server_named p.servers t.topic.server ≡ o → is_news p.servers p.table.topics q ≡ is_changed (rtd_of state p) (with_value t)
     served t at None found = absurd (cc (sym (linked.served q t at) ∙ ap is_some found))
     served t at (Some k) found = sym (changed-at state p q t k linked prepared at found)
+
     by : (o : Option ConnectedTopic) → topic_at p.table.topics q ≡ o → is_news p.servers p.table.topics q ≡ option_map_or (λ (t : ConnectedTopic). is_changed (rtd_of state p) (with_value t)) o false
     by None gone = list_any_none (λ (k : ServerParts S). is_news_of_one k p.table.topics q) p.servers
-      (λ j d below.
+        (λ j d below.
         ap (λ (o : Option ConnectedTopic). (get_or p.servers j d).flag && option_map_or (λ (v : Value). option_map_or (λ (x : ConnectedTopic). not (same_value x.value v)) o false) (sorted_news (get_or p.servers j d) q) false) gone
         ∙ ap (λ b. (get_or p.servers j d).flag && b) (no_value (sorted_news (get_or p.servers j d) q)) ∙ never (get_or p.servers j d).flag)
     by (Some t) at = served t at (server_named p.servers t.topic.server) refl
@@ -117,7 +121,7 @@ pub ids-passing : (p : ConnectedTopic → Bool) (topics : List ConnectedTopic) �
 ids-passing p [] rises q = refl
 ids-passing p (t ∷ ts) rises q =
     step (p t) (nat_eq q t.id) refl refl (ids-passing p ts (other-pairs (λ (a b : ConnectedTopic). a.id < b.id) t ts rises) q)
-      (λ here. gone (first-pairs (λ (a b : ConnectedTopic). a.id < b.id) t ts rises) (eqb-true q t.id here) (topic_at ts q) refl)
+    (λ here. gone (first-pairs (λ (a b : ConnectedTopic). a.id < b.id) t ts rises) (eqb-true q t.id here) (topic_at ts q) refl)
   where
     gone : All (λ (y : ConnectedTopic). t.id < y.id) ts → q ≡ t.id → (o : Option ConnectedTopic) → topic_at ts q ≡ o → o ≡ None
     gone later here None is = refl
@@ -125,6 +129,7 @@ ids-passing p (t ∷ ts) rises q =
         let less : t.id < y.id = all-found (λ (y : ConnectedTopic). t.id < y.id) (λ (y : ConnectedTopic). nat_eq q y.id) ts y later is in
         let same : y.id ≡ q = id-found ts q y is in
         absurd (omega (arith, less, same, here))
+
     step : (b c : Bool) → p t ≡ b → nat_eq q t.id ≡ c → list_any (nat_eq q) (ids_of (filter p ts)) ≡ option_map_or p (topic_at ts q) false → (c ≡ true → topic_at ts q ≡ None)
         → list_any (nat_eq q) (ids_of (cond b (t ∷ filter p ts) (filter p ts))) ≡ option_map_or p (cond c (Some t) (topic_at ts q)) false
     step true true passes here rest none = ap (λ d. d || list_any (nat_eq q) (ids_of (filter p ts))) here ∙ sym passes
@@ -137,10 +142,11 @@ pub ids-apart : (topics : List ConnectedTopic) → Rises topics → IsDistinct n
 unfolding IsDistinct
 ids-apart [] rises = tt
 ids-apart (t ∷ ts) rises =
-    let later = first-pairs (λ (a b : ConnectedTopic). a.id < b.id) t ts rises in
-    (recursion_from_All (λ (n : ℕ). nat_eq t.id n ≡ false) (ids_of ts)
-      (All-map (λ (n : ℕ). nat_eq t.id n ≡ false) (λ (y : ConnectedTopic). y.id) ts (λ j d below. differ t.id (get_or ts j d).id (later j d below))),
-    ids-apart ts (other-pairs (λ (a b : ConnectedTopic). a.id < b.id) t ts rises))
+    let later = first-pairs (λ (a b : ConnectedTopic). a.id < b.id) t ts rises in (
+      recursion_from_All (λ (n : ℕ). nat_eq t.id n ≡ false) (ids_of ts)
+          (All-map (λ (n : ℕ). nat_eq t.id n ≡ false) (λ (y : ConnectedTopic). y.id) ts (λ j d below. differ t.id (get_or ts j d).id (later j d below))),
+      ids-apart ts (other-pairs (λ (a b : ConnectedTopic). a.id < b.id) t ts rises),
+    )
   where
     differ : (a b : ℕ) → a < b → nat_eq a b ≡ false
     differ a b less = search (rules)
@@ -176,8 +182,8 @@ pub told-changed : {S : Type 0} (state : S → ServerState) (p : RtdParts S) (id
     → IsDistinct nat_eq ids → ((q : ℕ) → list_any (nat_eq q) ids ≡ is_news p.servers p.table.topics q) → length ids ≡ length (topics_changed (rtd_of state p))
 told-changed {S} state p ids rises linked prepared rests once told =
     length-from_same_keys nat_eq_equiv ids (ids_of (changed_of state p)) once
-      (ids-apart (changed_of state p) (AllPairs-filter (λ (a b : ConnectedTopic). a.id < b.id) (λ (t : ConnectedTopic). is_changed (rtd_of state p) (with_value t)) p.table.topics rises))
-      (same-ids state p ids rises linked prepared told)
+    (ids-apart (changed_of state p) (AllPairs-filter (λ (a b : ConnectedTopic). a.id < b.id) (λ (t : ConnectedTopic). is_changed (rtd_of state p) (with_value t)) p.table.topics rises))
+    (same-ids state p ids rises linked prepared told)
     ∙ length-map (changed_of state p) (λ (t : ConnectedTopic). t.id)
     ∙ sym (length-map (changed_of state p) (λ (t : ConnectedTopic). t.topic))
     ∙ ap length (sym (topics-changed state p rests))
@@ -190,6 +196,7 @@ member-passes f q (y ∷ ys) passes among = step (nat_eq q y) refl (member-passe
     behind : (a b : Bool) → b ≡ true → (a || b) ≡ true
     behind true b h = refl
     behind false b h = h
+
     step : (b : Bool) → nat_eq q y ≡ b → (list_any (nat_eq q) ys ≡ true → list_any f ys ≡ true) → (b || list_any (nat_eq q) ys) ≡ true → (f y || list_any f ys) ≡ true
     step true here rest among = ap (λ b. b || list_any f ys) (ap f (sym (eqb-true q y here)) ∙ passes)
     step false other rest among = behind (f y) (list_any f ys) (rest among)
@@ -203,8 +210,10 @@ some-passes f (x ∷ xs) ys within passes =
     behind : (a b : Bool) → b ≡ true → (a || b) ≡ true
     behind true b h = refl
     behind false b h = h
+
     same : (n : ℕ) → nat_eq n n ≡ true
     same n = search (rules)
+
     step : (b : Bool) → f x ≡ b → (list_any f xs ≡ true → list_any f ys ≡ true) → (b || list_any f xs) ≡ true → list_any f ys ≡ true
     step true here rest passes = member-passes f x ys here (within x (ap (λ b. b || list_any (nat_eq x) xs) (same x)))
     step false other rest passes = rest passes
@@ -230,8 +239,8 @@ told-readers {S} state p ids rises once linked prepared rests told cell =
     any-members has ids (ids_of (changed_of state p)) (same-ids state p ids rises linked prepared told)
     ∙ any-given has (λ (t : ConnectedTopic). t.id) (changed_of state p)
     ∙ any-each (λ (t : ConnectedTopic). has t.id) (λ (t : ConnectedTopic). reads t.topic) (changed_of state p)
-      (All-filter (λ (t : ConnectedTopic). is_changed (rtd_of state p) (with_value t)) (λ (t : ConnectedTopic). has t.id ≡ reads t.topic) p.table.topics
-        (λ j d below. own (get_or p.table.topics j d) (there j d below)))
+    (All-filter (λ (t : ConnectedTopic). is_changed (rtd_of state p) (with_value t)) (λ (t : ConnectedTopic). has t.id ≡ reads t.topic) p.table.topics
+    (λ j d below. own (get_or p.table.topics j d) (there j d below)))
     ∙ sym (any-given reads (λ (t : ConnectedTopic). t.topic) (changed_of state p))
     ∙ ap (list_any reads) (sym (topics-changed state p rests))
   where

@@ -10,8 +10,7 @@ ghost use Rattle.rtd_topics.specs.RtdState.{IsRtdState, RunsNone, RunsRound, Sam
 use super::leaving::{disconnect_since, disconnect_unread};
 use super::pulls::{changed_ids, note_pull, readers_of, take_all};
 use super::servers::{
-    connect_at, copy_texts, gather_all, is_any_flagged, open_all, publish_at,
-    raise_flag,
+    connect_at, copy_texts, gather_all, is_any_flagged, open_all, publish_at, raise_flag,
 };
 use cell_refs::Cell;
 use cell_values::{ErrorKind, Memory, Name, Text, Texts, Topic, Value};
@@ -141,8 +140,11 @@ impl<S: RtdServer + Drop> RtdTopics<S> {
     }
 
     /// Makes and starts a server, and takes the memory to add one; None where it didn't start.
-    pub fn make_server<M: Maker<Server = S>>(&mut self, maker: &mut M, name: &Name)
-        -> Result<Option<NewServer<S>>, Memory>
+    pub fn make_server<M: Maker<Server = S>>(
+        &mut self,
+        maker: &mut M,
+        name: &Name,
+    ) -> Result<Option<NewServer<S>>, Memory>
         ensures same { SameRtd (rtd_of S.state self.old) (rtd_of S.state self.new) }
         ensures started { IfOk result (λ made. is_some made ≡ true) }
         ensures named { IfOk result (λ made. IfSome made (λ server. server.name ≡ name.now)) }
@@ -491,10 +493,10 @@ fn add_topic(table: &mut Topics, topic: Topic, value: Value, round: u64)
     requires new { id_of table.old.topics topic ≡ None }
     requires room { 0 < table.old.room }
     ensures topics { table.new.topics ≡ table.old.topics ++ (record {
-        id = table.old.greatest + 1;
-        topic = topic;
-        value = value;
-        round = round
+      id = table.old.greatest + 1;
+      topic = topic;
+      value = value;
+      round = round;
     }) ∷ [] }
     ensures readers { KeepsTableReaders table.old table.new }
     ensures running { KeepsRunning table.old table.new }
