@@ -13,3 +13,7 @@ pub mod TableFacts
 pub mod Taking
 pub mod TopicFacts
 pub mod Views
+pub mod Standing
+pub mod Pulling
+pub mod Telling
+pub mod StateFacts

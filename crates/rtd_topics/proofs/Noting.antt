@@ -49,7 +49,7 @@ ids-more news topics keys i id value q now before old below item found one other
     let same : has_other_value topics id value ≡ differs news topics id = sym (ap (λ (o : Option Value). option_map_or (λ (v : Value). has_other_value topics id v) o false) found) in
     one ∙ ap (λ b. (has_other_value topics id value && nat_eq id q) || b) others
     ∙ one_id (nat_eq id q) (list_any (nat_eq q) (take i keys)) (differs news topics q) old (has_other_value topics id value)
-      (λ here. same ∙ ap (differs news topics) (eqb-true id q here))
+    (λ here. same ∙ ap (differs news topics) (eqb-true id q here))
     ∙ ap (λ b. ((list_any (nat_eq q) (take i keys) || b) && differs news topics q) || old) (turned id q)
     ∙ ap (λ k. ((list_any (nat_eq q) (take i keys) || nat_eq q k) && differs news topics q) || old) item
     ∙ ap (λ b. (b && differs news topics q) || old) (sym (list_any_more (nat_eq q) keys i id below))

@@ -60,13 +60,14 @@ without-at [] id q = none (nat_eq id q)
 without-at (t ∷ ts) id q =
     first (nat_eq id t.id) t (topics_without ts id)
     ∙ one (nat_eq id t.id) (nat_eq q t.id) (nat_eq id q) t (topic_at (topics_without ts id) q) (topic_at ts q)
-      (λ out. ap (nat_eq q) (sym (eqb-true id t.id out)) ∙ turned q id)
-      (λ stays here. ap (nat_eq id) (eqb-true q t.id here) ∙ stays)
-      (without-at ts id q)
+    (λ out. ap (nat_eq q) (sym (eqb-true id t.id out)) ∙ turned q id)
+    (λ stays here. ap (nat_eq id) (eqb-true q t.id here) ∙ stays)
+    (without-at ts id q)
   where
     first : (b : Bool) (t : ConnectedTopic) (ts : List ConnectedTopic) → topic_at (cond (not b) (t ∷ ts) ts) q ≡ cond (not b) (cond (nat_eq q t.id) (Some t) (topic_at ts q)) (topic_at ts q)
     first true t ts = refl
     first false t ts = refl
+
     one : (p a d : Bool) (t : ConnectedTopic) (kept all : Option ConnectedTopic) → (p ≡ true → a ≡ d) → (p ≡ false → a ≡ true → d ≡ false) → kept ≡ cond d None all
         → cond (not p) (cond a (Some t) kept) kept ≡ cond d None (cond a (Some t) all)
     one true true true t kept all same other h = h
