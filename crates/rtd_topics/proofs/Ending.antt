@@ -1,5 +1,5 @@
 -- A recalculation ends.
-use Rattle.std.proofs.Common.{◌≡◌, ℕ, Bool, true, false, cond, List, [], ◌∷◌, Option, None, Some, refl, ap, sym, ◌∙◌}
+use Rattle.std.proofs.Common.{◌≡◌, ℕ, Bool, true, false, cond, List, Option, None, Some, refl, ap, sym, ◌∙◌}
 use Rattle.std.specs.Prelude.{◌&&◌, filter, find, map, nat_eq, not}
 use Rattle.std.specs.Map.{lookup}
 use Rattle.cell_refs.specs.declared.grid.Cell.{Cell}

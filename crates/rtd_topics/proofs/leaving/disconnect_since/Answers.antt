@@ -1,8 +1,8 @@
-use Rattle.std.proofs.Common.{◌≡◌, Bool, true, false, refl, ap, sym, ◌∙◌}
+use Rattle.std.proofs.Common.{◌≡◌, true, false, refl, ap, sym, ◌∙◌}
 use Rattle.std.specs.Prelude.{filter, nat_eq, not}
 use Rattle.std.proofs.lemmas.Bool.{eqb-true}
 use Rattle.std.proofs.lemmas.List.Elements.{All-weaker}
-use Rattle.topic_table.specs.Table.{ConnectedTopic, has_reader, topic_at}
+use Rattle.topic_table.specs.Table.{ConnectedTopic, topic_at}
 use Rattle.rtd_topics.proofs.Connecting.{not-so}
 use Rattle.rtd_topics.proofs.Dropping.{drops-kept, drops-more, drops-none, fewer, filter-left, readers-left, stays-at, was-at}
 use Rattle.rtd_topics.proofs.TableFacts.{filter-all}

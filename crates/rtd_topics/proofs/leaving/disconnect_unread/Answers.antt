@@ -1,7 +1,6 @@
-use Rattle.std.proofs.Common.{◌≡◌, Bool, true, false, refl, ap, sym, ◌∙◌}
+use Rattle.std.proofs.Common.{◌≡◌, false, refl, ap, sym, ◌∙◌}
 use Rattle.std.specs.Prelude.{nat_eq}
 use Rattle.std.proofs.lemmas.Bool.{eqb-true}
-use Rattle.rtd_topics.specs.Dropping.{IsRead}
 use Rattle.topic_table.specs.Table.{has_reader, topic_at}
 use Rattle.rtd_topics.proofs.Connecting.{not-so}
 use Rattle.rtd_topics.proofs.Dropping.{drops-kept, drops-more, drops-none, fewer, readers-left, stays-at, was-at}

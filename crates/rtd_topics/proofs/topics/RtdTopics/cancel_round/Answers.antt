@@ -1,6 +1,5 @@
-use Rattle.std.proofs.Common.{◌≡◌, ℕ, Bool, true, false, Some, ap, sym, ◌∙◌}
+use Rattle.std.proofs.Common.{◌≡◌, ℕ, true, Some, ap, sym, ◌∙◌}
 use Rattle.std.specs.Prelude.{◌&&◌, filter, map, nat_eq, not}
-use Rattle.cell_refs.specs.declared.grid.Cell.{Cell}
 use Rattle.rtd_topics.specs.Parts.{is_of_round, known_of, published_of, topic_has, with_value}
 use Rattle.topic_table.specs.Table.{ConnectedTopic, has_reader, topic_at}
 use Rattle.rtd_topics.proofs.Ending.{read-before, taken-since}

@@ -1,9 +1,8 @@
-use Rattle.std.proofs.Common.{◌≡◌, ℕ, Bool, true, false, Some, refl, ap, sym, subst, ◌∙◌}
+use Rattle.std.proofs.Common.{false, refl, ap, sym, subst, ◌∙◌}
 use Rattle.std.specs.Prelude.{map}
-use Rattle.cell_refs.specs.declared.grid.Cell.{Cell}
 use Rattle.rtd_topics.specs.Parts.{RtdParts, known_of, published_of, rtd_of, topic_has}
 use Rattle.rtd_topics.specs.RtdState.{TakesRead}
-use Rattle.topic_table.specs.Table.{ConnectedTopic, has_read, has_reader, topic_at}
+use Rattle.topic_table.specs.Table.{has_read, has_reader, topic_at}
 use Rattle.rtd_topics.proofs.Ending.{takes-read}
 use Rattle.rtd_topics.proofs.Linking.{linked-ended}
 use Rattle.rtd_topics.proofs.TopicFacts.{has-same}
