@@ -2,6 +2,7 @@ pub mod Adding
 pub mod Connecting
 pub mod Disconnecting
 pub mod Dropping
+pub mod Ending
 pub mod Linking
 pub mod Noting
 pub mod Publishing

@@ -371,9 +371,11 @@ impl<S: RtdServer + Drop> RtdTopics<S> {
             ≡ (rtd_of S.state self.old).readers topic cell }
         ensures round { (rtd_of S.state self.new).round ≡ (rtd_of S.state self.old).round }
     {
+        self.table.facts();
         self.is_running = false;
         self.table.drop_round();
         disconnect_since(&mut self.servers, &mut self.table, self.round);
+        self.table.facts();
     }
 }
 
