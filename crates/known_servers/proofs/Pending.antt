@@ -100,7 +100,7 @@ sound-popped st news news' last given sorted sound = record {
   fresh = sound.fresh;
   stale = sound.stale;
   linked = λ id h. sound.linked id
-    (found_first (is_due st id) (news_of st id) (news_at news' id) (news_at news id)
+      (found_first (is_due st id) (news_of st id) (news_at news' id) (news_at news id)
       (λ found. ap (λ (es : List (ℕ × Value)). is_some (lookup (nat_eq id) es)) (ap (λ (g : List (ℕ × Value)). g ++ news.sorted) (sym given) ∙ ap (λ (s : List (ℕ × Value)). news'.given ++ s) sorted ∙ sym (append_assoc news'.given news'.sorted last))
-        ∙ found_before (nat_eq id) (news'.given ++ news'.sorted) last found) h);
+      ∙ found_before (nat_eq id) (news'.given ++ news'.sorted) last found) h);
 }
