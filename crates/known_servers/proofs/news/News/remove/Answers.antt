@@ -1,5 +1,5 @@
-use Rattle.std.proofs.Common.{rules, ap, ◌∙◌, ◌++◌, ℕ, subst, ◌≡◌, cond, Option, None, sym}
-use Rattle.std.specs.Prelude.{filter, nat_eq, not, List}
+use Rattle.std.proofs.Common.{rules, ap, ◌∙◌, ◌++◌, ℕ, cond, None}
+use Rattle.std.specs.Prelude.{nat_eq, not, List}
 use Rattle.std.specs.Map.{lookup}
 use Rattle.std.proofs.lemmas.Fn.{filter_same}
 use Rattle.cell_values.specs.declared.values.Value.{Value}

@@ -1,5 +1,5 @@
-use Rattle.std.proofs.Common.{◌≡◌, ℕ, ◌++◌, ◌∷◌, [], List, Some, ap, sym, ◌∙◌, arith}
-use Rattle.std.specs.Prelude.{nat_eq, option_to_list}
+use Rattle.std.proofs.Common.{ℕ, ◌++◌, List, ap, sym, ◌∙◌, arith}
+use Rattle.std.specs.Prelude.{nat_eq}
 use Rattle.std.specs.Map.{lookup}
 use Rattle.cell_values.specs.declared.values.Value.{Value}
 use Rattle.known_servers.proofs.Sorting.{sorted_in}

@@ -1,4 +1,3 @@
-use Rattle.std.proofs.Common.{rules}
 use Rattle.known_servers.proofs.Pending.{pending-published}
 use Rattle.known_servers.proofs.servers.KnownServer.publish.Goals as goal
 use Rattle.known_servers.proofs.servers.KnownServer.publish.Goals.{in-Ok, in-Err}
