@@ -2,9 +2,7 @@
 use Rattle.std.specs.Prelude.{◌≡◌, ◌≢◌, ℕ, ℤ, ◌<◌, ◌≤◌, int_le, IsTrue, List, map, length, All}
 use Rattle.std.specs.Char.{to_ascii_uppercase}
 use Rattle.std.specs.Str.{chars}
-use Rattle.addin_types.specs.declared.registrations.Kind.{Kind}
-use Rattle.addin_types.specs.declared.registrations.Kind.TheVariants as kinds
-use Rattle.addin_types.specs.declared.registrations.Registration.{Registration}
+use Rattle.addin_types.specs.TypeText.{IsRegistration}
 use Rattle.cell_values.specs.declared.values.Value.{Value}
 use Rattle.cell_values.specs.declared.values.Value.TheVariants as values
 use Rattle.cell_values.specs.Value.{is_in_magnitude}
@@ -33,19 +31,6 @@ IsValueInForm value = value ≢ values.Blank
 abbrev pub IsNameInForm : List ℕ → Type 0
 IsNameInForm name = map to_ascii_uppercase name ≡ name
 
--- the most arguments of a registered function
-abbrev pub MOST_REGISTERED : ℕ
-MOST_REGISTERED = 255
-
--- a result that comes as it is returned, or by a handle at a place among so many arguments
-abbrev pub IsKindInForm : ℕ → Kind → Type 0
-IsKindInForm arguments kinds.Plain = Unit {0}
-IsKindInForm arguments (kinds.Asynchronous place) = place ≤ arguments
-
--- a registration of no more arguments than may be, with its handle among them
-abbrev pub IsRegistrationInForm : Registration → Type 0
-IsRegistrationInForm r = (r.arguments ≤ MOST_REGISTERED) × IsKindInForm r.arguments r.kind
-
 -- 1 to 16 strings of at most 255 characters each
 abbrev pub AreStringsInForm : List (List ℕ) → Type 0
 AreStringsInForm strings =
@@ -64,7 +49,7 @@ IsMomentInForm moments.Force = Unit {0}
 abbrev pub IsInForm : Command → Type 0
 IsInForm (commands.Set cell content) = IsContentInForm content
 IsInForm (commands.Clear cell) = Unit {0}
-IsInForm (commands.Register name registration) = IsNameInForm name × IsRegistrationInForm registration
+IsInForm (commands.Register name registration) = IsNameInForm name × IsRegistration registration
 IsInForm (commands.Server name) = Unit {0}
 IsInForm (commands.Publish server strings value) = AreStringsInForm strings × IsValueInForm value
 IsInForm (commands.Notify name) = Unit {0}
