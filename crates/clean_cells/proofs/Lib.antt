@@ -1,4 +1,4 @@
--- Lemmas of this crate.
+-- What commands keep of the cells that aren't stale.
 mod SameValues
 mod TopicLists
 mod WithoutRtd
@@ -9,3 +9,8 @@ mod Readers
 mod Acceptance
 mod Snapshots
 mod EasySteps
+mod Edits
+mod Pulls
+mod Rounds
+mod EveryState
+pub mod PublicLaws
