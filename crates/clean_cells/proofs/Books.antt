@@ -84,4 +84,3 @@ remove_ordered test (e ∷ es) ordered = elim (test e.0) as (λ b. IsInOrder (co
   | true ↦ ordered.1
   | false ↦ (below_remove e.0 test es ordered.0, remove_ordered test es ordered.1)
 ]
-

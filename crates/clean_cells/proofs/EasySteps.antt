@@ -40,21 +40,47 @@ module _ (terms : HostTerms) (s : State) (kept : KeepsClean terms s) where
   -- another throttle, or other listeners
   pub throttle_kept : (throttle : ThrottleState) → KeepsClean terms (record s { throttle = throttle })
   throttle_kept throttle = record {
-    ordered = kept.ordered; completed_ordered = kept.completed_ordered; once = kept.once; published = kept.published; taken = kept.taken; opening = kept.opening;
-    failed = kept.failed; contents = kept.contents; seen = kept.seen; registered = kept.registered; accepted = kept.accepted;
+    ordered = kept.ordered;
+    completed_ordered = kept.completed_ordered;
+    once = kept.once;
+    published = kept.published;
+    taken = kept.taken;
+    opening = kept.opening;
+    failed = kept.failed;
+    contents = kept.contents;
+    seen = kept.seen;
+    registered = kept.registered;
+    accepted = kept.accepted;
   }
 
   pub listeners_kept : (listeners : List Listener) → KeepsClean terms (record s { listeners = listeners })
   listeners_kept listeners = record {
-    ordered = kept.ordered; completed_ordered = kept.completed_ordered; once = kept.once; published = kept.published; taken = kept.taken; opening = kept.opening;
-    failed = kept.failed; contents = kept.contents; seen = kept.seen; registered = kept.registered; accepted = kept.accepted;
+    ordered = kept.ordered;
+    completed_ordered = kept.completed_ordered;
+    once = kept.once;
+    published = kept.published;
+    taken = kept.taken;
+    opening = kept.opening;
+    failed = kept.failed;
+    contents = kept.contents;
+    seen = kept.seen;
+    registered = kept.registered;
+    accepted = kept.accepted;
   }
 
   -- a known server publishes
   pub publish_kept : (u : Topic) (value : Value) → knows_server s u.server ≡ true → KeepsClean terms (record s { published = topics_with s.published u value })
   publish_kept u value known = record {
-    ordered = kept.ordered; completed_ordered = kept.completed_ordered; once = kept.once; taken = kept.taken; opening = kept.opening;
-    failed = kept.failed; contents = kept.contents; seen = kept.seen; registered = kept.registered; accepted = kept.accepted;
+    ordered = kept.ordered;
+    completed_ordered = kept.completed_ordered;
+    once = kept.once;
+    taken = kept.taken;
+    opening = kept.opening;
+    failed = kept.failed;
+    contents = kept.contents;
+    seen = kept.seen;
+    registered = kept.registered;
+    accepted = kept.accepted;
     published = λ t unknown. found t unknown (another t unknown (same_topic t u) refl);
   }
     where
@@ -76,8 +102,13 @@ module _ (terms : HostTerms) (s : State) (kept : KeepsClean terms s) where
   -- servers keep their names
   pub servers_kept : (servers : List KnownServer) → names_of servers ≡ names_of s.servers → KeepsClean terms (record s { servers = servers })
   servers_kept servers same = record {
-    ordered = kept.ordered; completed_ordered = kept.completed_ordered; once = kept.once;
-    failed = kept.failed; contents = kept.contents; registered = kept.registered; accepted = kept.accepted;
+    ordered = kept.ordered;
+    completed_ordered = kept.completed_ordered;
+    once = kept.once;
+    failed = kept.failed;
+    contents = kept.contents;
+    registered = kept.registered;
+    accepted = kept.accepted;
     published = λ t unknown. kept.published t (before t unknown);
     taken = λ t unknown. kept.taken t (before t unknown);
     opening = λ t unknown. kept.opening t (before t unknown);

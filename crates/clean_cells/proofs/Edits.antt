@@ -95,8 +95,16 @@ module _ (terms : HostTerms) (s : State) (kept : KeepsClean terms s) where
   pub register_kept : (name : List ℕ) (registration : Registration) → KeepsClean terms (after_register s name registration)
   register_kept name registration =
       let e = changed_kept (callers_of s.book.contents name) in record {
-        ordered = e.ordered; completed_ordered = e.completed_ordered; once = e.once; published = e.published; taken = e.taken; opening = e.opening;
-        failed = e.failed; contents = e.contents; seen = e.seen; accepted = e.accepted;
+        ordered = e.ordered;
+        completed_ordered = e.completed_ordered;
+        once = e.once;
+        published = e.published;
+        taken = e.taken;
+        opening = e.opening;
+        failed = e.failed;
+        contents = e.contents;
+        seen = e.seen;
+        accepted = e.accepted;
         registered = λ cell tree unchanged content other named.
             let absent = sym (among-formulas_where (λ tree. is_named (sites_named tree) name) s.book.contents kept.ordered cell
             ∙ ap (by_content (λ v. false) (λ tree. is_named (sites_named tree) name)) content)
@@ -110,8 +118,13 @@ module _ (terms : HostTerms) (s : State) (kept : KeepsClean terms s) where
   pub server_kept : (name : List ℕ) → KeepsClean terms (after_server s name)
   server_kept name =
       let e = changed_kept (formulas_where s.book.contents has_rtd_call) in record {
-        ordered = e.ordered; completed_ordered = e.completed_ordered; once = e.once;
-        failed = e.failed; contents = e.contents; registered = e.registered; accepted = e.accepted;
+        ordered = e.ordered;
+        completed_ordered = e.completed_ordered;
+        once = e.once;
+        failed = e.failed;
+        contents = e.contents;
+        registered = e.registered;
+        accepted = e.accepted;
         published = λ t unknown. kept.published t (known_before s.servers _ t.server unknown);
         taken = λ t unknown. kept.taken t (known_before s.servers _ t.server unknown);
         opening = λ t unknown. kept.opening t (known_before s.servers _ t.server unknown);

@@ -53,8 +53,12 @@ module _ (terms : HostTerms) (failed : List (List ℕ)) (s : State) (kept : Keep
   pub pull_kept : (moment : Moment) → KeepsClean terms (after_pull terms failed s moment)
   pull_kept moment =
       let e = changed_kept terms s kept (readers_of_topics terms s news) in record {
-        ordered = e.ordered; completed_ordered = e.completed_ordered;
-        failed = e.failed; contents = e.contents; registered = e.registered; accepted = e.accepted;
+        ordered = e.ordered;
+        completed_ordered = e.completed_ordered;
+        failed = e.failed;
+        contents = e.contents;
+        registered = e.registered;
+        accepted = e.accepted;
         once = subst (IsDistinct same_topic) (sym (keys-map_entries pulled s.taken)) kept.once;
         published = λ t unknown. kept.published t (sym (same_names t) ∙ unknown);
         taken = λ t unknown. lookup-pulled t ∙ ap (λ o. option_map_or (λ v. Some (pulled (t, v))) o None) (kept.taken t (sym (same_names t) ∙ unknown));

@@ -36,8 +36,14 @@ module _ (terms : HostTerms) (s : State) (kept : KeepsClean terms s) where
   pub begin_kept : (kind : BeginKind) → KeepsClean terms (after_begin s kind)
   begin_kept kind =
       let e = begin_changed kind in record {
-        ordered = e.ordered; completed_ordered = e.completed_ordered; once = e.once; published = e.published; taken = e.taken;
-        contents = e.contents; seen = e.seen; registered = e.registered;
+        ordered = e.ordered;
+        completed_ordered = e.completed_ordered;
+        once = e.once;
+        published = e.published;
+        taken = e.taken;
+        contents = e.contents;
+        seen = e.seen;
+        registered = e.registered;
         opening = kept.published;
         failed = refl;
         accepted = λ cell tree content fresh site.
@@ -54,8 +60,16 @@ module _ (terms : HostTerms) (s : State) (kept : KeepsClean terms s) where
 
   pub return_kept : (handle : Handle) (value : Value) → is_open_handle terms s handle ≡ true → KeepsClean terms (after_return s handle value)
   return_kept handle value asked = record {
-    ordered = kept.ordered; completed_ordered = kept.completed_ordered; once = kept.once; published = kept.published; taken = kept.taken; opening = kept.opening;
-    failed = kept.failed; contents = kept.contents; seen = kept.seen; registered = kept.registered;
+    ordered = kept.ordered;
+    completed_ordered = kept.completed_ordered;
+    once = kept.once;
+    published = kept.published;
+    taken = kept.taken;
+    opening = kept.opening;
+    failed = kept.failed;
+    contents = kept.contents;
+    seen = kept.seen;
+    registered = kept.registered;
     accepted = λ cell tree content fresh site.
         kept.accepted cell tree content fresh site
         ∙ sym (value_elsewhere (record { cell = handle.cell; site = handle.site; value = value }) s.accepted cell site
@@ -65,8 +79,15 @@ module _ (terms : HostTerms) (s : State) (kept : KeepsClean terms s) where
   -- ---- an end
   pub cancel_kept : KeepsClean terms (after_cancel s)
   cancel_kept = record {
-    ordered = kept.ordered; completed_ordered = kept.completed_ordered; once = kept.once; published = kept.published; taken = kept.taken;
-    contents = kept.contents; seen = kept.seen; registered = kept.registered; accepted = kept.accepted;
+    ordered = kept.ordered;
+    completed_ordered = kept.completed_ordered;
+    once = kept.once;
+    published = kept.published;
+    taken = kept.taken;
+    contents = kept.contents;
+    seen = kept.seen;
+    registered = kept.registered;
+    accepted = kept.accepted;
     opening = λ t unknown. refl;
     failed = refl;
   }
