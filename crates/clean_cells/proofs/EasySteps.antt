@@ -1,6 +1,6 @@
 -- The first state keeps what commands keep, and so do the commands that change neither the book nor the rounds: a
 -- publish, a flag, and what concerns the throttle and listeners alone.
-use Rattle.std.proofs.Common.{◌≡◌, ◌⊎◌, inl, inr, ℕ, Bool, true, false, cond, List, [], ◌∷◌, Option, Some, None, refl, ap, sym, ◌∙◌}
+use Rattle.std.proofs.Common.{◌≡◌, inl, inr, Bool, true, false, cond, List, Some, None, refl, ap, sym, ◌∙◌}
 use Rattle.std.specs.List.Sorted.{IsStrictlySortedBy}
 use Rattle.std.specs.Map.{lookup, remove_entry}
 use Rattle.cell_values.specs.declared.topics.Topic.{Topic}
@@ -9,7 +9,7 @@ use Rattle.cell_values.specs.Topic.{same_topic}
 use Rattle.workbook.specs.Pulling.{is_named}
 use Rattle.workbook.specs.State.{HostTerms, KnownServer, Listener, State, ThrottleState, first_state}
 use Rattle.workbook.specs.Step.{knows_server, topics_with}
-use Rattle.clean_cells.specs.Keeping.{AreOfKnown, IsAsCompleted, KeepsClean}
+use Rattle.clean_cells.specs.Keeping.{IsAsCompleted, KeepsClean}
 use Rattle.clean_cells.proofs.Books.{lookup-removed_elsewhere}
 use Rattle.clean_cells.proofs.Servers.{names_of}
 use Rattle.clean_cells.proofs.TopicLists.{none_distinct, same_topic_is}

@@ -1,7 +1,6 @@
 -- Edits keep what commands keep: contents set and cleared, functions registered, and servers named.
-use Rattle.std.proofs.Common.{◌≡◌, ◌⊎◌, inl, inr, ℕ, Bool, true, false, ◌||◌, cond, List, [], ◌∷◌, ◌++◌, Option, Some, None, refl, ap, sym, ◌∙◌}
+use Rattle.std.proofs.Common.{◌≡◌, ℕ, Bool, true, false, List, ◌∷◌, ◌++◌, refl, ap, sym, ◌∙◌}
 use Rattle.std.specs.BTreeMap.{insert_entry}
-use Rattle.std.specs.List.{list_any}
 use Rattle.std.specs.Map.{remove_entry}
 use Rattle.std.specs.Str.{bytes_eq}
 use Rattle.std.proofs.lemmas.List.Folds.{list_any-append}
@@ -11,19 +10,15 @@ use Rattle.addin_types.specs.declared.registrations.Registration.{Registration}
 use Rattle.cell_refs.specs.declared.grid.Cell.{Cell}
 use Rattle.cell_refs.specs.Cell.{cell_cmp, is_among, same_cell}
 use Rattle.cell_refs.proofs.PublicLaws.{exact_cells, same_cell_is}
-use Rattle.cell_values.specs.declared.topics.Topic.{Topic}
-use Rattle.formula_parse.specs.declared.nodes.Node.{Node}
 use Rattle.formula_parse.specs.Tree.{has_rtd_call, sites_named}
 use Rattle.workbook.specs.declared.contents.Content.{Content}
-use Rattle.workbook.specs.declared.contents.Content.TheVariants as contents
-use Rattle.workbook.specs.Book.{IsInOrder, by_content, content_at, has_formula}
+use Rattle.workbook.specs.Book.{IsInOrder, by_content, has_formula}
 use Rattle.workbook.specs.Pulling.{is_named}
-use Rattle.workbook.specs.Reads.{cell_reads}
-use Rattle.workbook.specs.Registry.{name_cmp, registration_of}
+use Rattle.workbook.specs.Registry.{name_cmp}
 use Rattle.workbook.specs.State.{HostTerms, State, completed_setting}
 use Rattle.workbook.specs.Step.{after_clear, after_register, after_server, after_set, callers_of, formulas_where}
 use Rattle.workbook.proofs.PublicLaws.{or_false}
-use Rattle.clean_cells.specs.Keeping.{IsAsCompleted, KeepsClean}
+use Rattle.clean_cells.specs.Keeping.{KeepsClean}
 use Rattle.clean_cells.proofs.Books.{insert_ordered, lookup-put_elsewhere, lookup-removed_elsewhere, remove_ordered}
 use Rattle.clean_cells.proofs.Fresh.{IsEdit, fresh_before, same_content}
 use Rattle.clean_cells.proofs.Readers.{among-formulas_where}

@@ -1,6 +1,6 @@
 -- Each command keeps what commands keep, so that every state that commands lead to does; and what follows for its
 -- cells that aren't stale.
-use Rattle.std.proofs.Common.{◌≡◌, ℕ, ◌==◌, Bool, true, false, cond, List, [], ◌∷◌, ◌++◌, refl, ap, sym, ◌∙◌}
+use Rattle.std.proofs.Common.{◌≡◌, ℕ, ◌==◌, Bool, true, false, cond, List, [], ◌∷◌, ◌++◌, refl}
 use Rattle.cell_refs.specs.declared.grid.Cell.{Cell}
 use Rattle.cell_refs.specs.Cell.{is_among}
 use Rattle.cell_refs.specs.declared.handles.Handle.{Handle}

@@ -1,10 +1,10 @@
 -- What is stale before an edit is stale behind it, or changed: reaching a changed cell only grows.
-use Rattle.std.proofs.Common.{◌≡◌, ℕ, zero, suc, Bool, true, false, ◌||◌, ◌&&◌, List, [], ◌∷◌, refl, ap, sym, subst, ◌∙◌}
+use Rattle.std.proofs.Common.{◌≡◌, ℕ, zero, suc, Bool, true, false, ◌||◌, ◌&&◌, List, refl, ap, sym, ◌∙◌}
 use Rattle.std.specs.List.{list_any}
 use Rattle.cell_refs.specs.declared.grid.Cell.{Cell}
 use Rattle.cell_refs.specs.Cell.{is_among}
 use Rattle.workbook.specs.declared.contents.Content.{Content}
-use Rattle.workbook.specs.Book.{IsInOrder, cell_precedents, content_at, content_precedents, formula_count, has_formula, is_formula}
+use Rattle.workbook.specs.Book.{IsInOrder, cell_precedents, content_at, content_precedents, formula_count, is_formula}
 use Rattle.workbook.specs.Stale.{is_stale, reaches}
 use Rattle.workbook.proofs.PublicLaws.{any_leads, or_left, reaches-enough}
 

@@ -1,11 +1,12 @@
 -- Which cells are among those that read a topic, that call a name, or whose formula passes a test.
-use Rattle.std.proofs.Common.{◌≡◌, ℕ, Bool, true, false, ◌||◌, ◌&&◌, cond, List, [], ◌∷◌, Option, Some, None, refl, ap, sym, ◌∙◌}
+use Rattle.std.proofs.Common.{◌≡◌, Bool, true, false, ◌||◌, ◌&&◌, cond, List, [], ◌∷◌, Option, Some, None, refl, ap, sym, ◌∙◌}
 use Rattle.std.specs.List.{filter, list_any}
 use Rattle.std.specs.Map.{keys_of}
 use Rattle.std.specs.Option.{is_some}
 use Rattle.std.proofs.lemmas.Map.Entries.{lookup-filter-values, option_filter}
 use Rattle.std.proofs.lemmas.Map.Keys.{IsDistinct-from_sorted}
 use Rattle.std.proofs.lemmas.Map.Made.{is_some-lookup}
+use Rattle.std.proofs.lemmas.Map.Views.{any-filter_same}
 use Rattle.cell_refs.specs.declared.grid.Cell.{Cell}
 use Rattle.cell_refs.specs.Cell.{cell_cmp, is_among, same_cell}
 use Rattle.cell_refs.proofs.PublicLaws.{same_cell_is, same_cells}
@@ -32,23 +33,6 @@ among-formulas_where test book ordered cell =
     sym (is_some-lookup (same_cell cell) (filter (λ e. by_content (λ v. false) test (Some e.1)) book))
     ∙ ap is_some (lookup-filter-values same_cells (λ content. by_content (λ v. false) test (Some content)) cell book (IsDistinct-from_sorted cell_cmp (keys_of book) ordered))
     ∙ either_alike test (content_at book cell)
-
-taken_in : (a b t : Bool) → (a ≡ true → t ≡ true) → (a || (b && t)) ≡ ((a || b) && t)
-taken_in true b t f = sym (f refl)
-taken_in false b t f = refl
-
-left_out : (a b t : Bool) → (a ≡ true → t ≡ false) → (b && t) ≡ ((a || b) && t)
-left_out true true t f = refl
-left_out true false t f = sym (f refl)
-left_out false b t f = refl
-
--- the cells that pass
-among-filter : (p : Cell → Bool) (cells : List Cell) (q : Cell) → is_among (filter p cells) q ≡ (is_among cells q && p q)
-among-filter p [] q = refl
-among-filter p (c ∷ cells) q = elim (p c) as (λ b. p c ≡ b → is_among (cond b (c ∷ filter p cells) (filter p cells)) q ≡ ((same_cell q c || is_among cells q) && p q)) [
-  | true ↦ λ e. ap (λ b. same_cell q c || b) (among-filter p cells q) ∙ taken_in (same_cell q c) (is_among cells q) (p q) (λ same. ap p (same_cell_is q c same) ∙ e)
-  | false ↦ λ e. among-filter p cells q ∙ left_out (same_cell q c) (is_among cells q) (p q) (λ same. ap p (same_cell_is q c same) ∙ e)
-] refl
 
 -- a cell that reads a topic has a formula
 pub reads_formula : (setting : Setting) (book : List (Cell × Content)) (cell : Cell) (topic : Topic) → cell_reads setting book cell topic ≡ true → is_formula book cell ≡ true
@@ -78,6 +62,10 @@ some_listed p (u ∷ topics) t h met =
 pub reader_among : (setting : Setting) (book : List (Cell × Content)) → IsInOrder book → (topics : List Topic) (cell : Cell) (t : Topic) → cell_reads setting book cell t ≡ true → is_listed topics t ≡ true
     → is_among (filter (λ c. list_any (is_listed topics) (topics_of_cell setting book c)) (formula_cells book)) cell ≡ true
 reader_among setting book ordered topics cell t reads listed =
-    among-filter (λ c. list_any (is_listed topics) (topics_of_cell setting book c)) (formula_cells book) cell
-    ∙ ap (λ b. b && list_any (is_listed topics) (topics_of_cell setting book cell)) (formula_cells-has book ordered cell ∙ reads_formula setting book cell t reads)
-    ∙ some_listed (is_listed topics) (topics_of_cell setting book cell) t (cell_listed setting book cell t ∙ reads) listed
+    any-filter_same (same_cell cell) reads_one (reads_one cell) (λ c is. ap reads_one (sym (same_cell_is cell c is))) (formula_cells book)
+    ∙ ap (λ b. b && is_among (formula_cells book) cell) (some_listed (is_listed topics) (topics_of_cell setting book cell) t (cell_listed setting book cell t ∙ reads) listed)
+    ∙ formula_cells-has book ordered cell
+    ∙ reads_formula setting book cell t reads
+  where
+    reads_one : Cell → Bool
+    reads_one c = list_any (is_listed topics) (topics_of_cell setting book c)

@@ -1,11 +1,11 @@
 -- Recalculations keep what commands keep: their begin, the values that are accepted in them, their cancelling, and
 -- their completion.
-use Rattle.std.proofs.Common.{◌≡◌, ◌⊎◌, inl, inr, ℕ, ◌+◌, Bool, true, false, not, ◌&&◌, ◌||◌, cond, List, [], ◌∷◌, ◌++◌, map, Option, Some, None, refl, ap, sym, subst, ◌∙◌}
+use Rattle.std.proofs.Common.{◌≡◌, inl, inr, Bool, true, false, not, ◌&&◌, cond, [], Some, None, refl, ap, sym, subst, ◌∙◌}
 use Rattle.std.specs.List.{IsDistinct, filter, flat_map, list_any}
-use Rattle.std.specs.Map.{keys_of, lookup}
+use Rattle.std.specs.Map.{lookup}
 use Rattle.cell_refs.specs.declared.grid.Cell.{Cell}
 use Rattle.cell_refs.specs.declared.handles.Handle.{Handle}
-use Rattle.cell_refs.specs.Cell.{is_among, same_cell}
+use Rattle.cell_refs.specs.Cell.{same_cell}
 use Rattle.cell_refs.proofs.PublicLaws.{same_cell_is, some_among}
 use Rattle.cell_values.specs.declared.topics.Topic.{Topic}
 use Rattle.cell_values.specs.declared.values.Value.{Value}
@@ -15,7 +15,7 @@ use Rattle.workbook.specs.declared.commands.BeginKind.TheVariants as kinds
 use Rattle.workbook.specs.Book.{formula_cells, has_formula}
 use Rattle.workbook.specs.Reads.{cell_reads, is_listed, topics_of_cell}
 use Rattle.workbook.specs.Stale.{is_stale}
-use Rattle.workbook.specs.State.{HostTerms, State, setting_of, snapshot, snapshot_topics}
+use Rattle.workbook.specs.State.{HostTerms, State, setting_of, snapshot}
 use Rattle.workbook.specs.Step.{after_begin, after_cancel, after_done, after_return, changed_at_begin, failed_topics, is_open_handle, knows_server, taken_at_end, topics_in_use}
 use Rattle.workbook.proofs.PublicLaws.{any_alike, cell_listed, formula_cells-has}
 use Rattle.clean_cells.specs.Keeping.{IsAsCompleted, KeepsClean}
@@ -108,10 +108,10 @@ module _ (terms : HostTerms) (s : State) (kept : KeepsClean terms s) where
       (λ cell. cell_listed (setting_of terms s) s.book.contents cell topic) (formula_cells s.book.contents)
 
   -- what is found of a topic
-  lookup-left : (topic : Topic) → lookup (same_topic topic) (taken_at_end terms s) ≡ cond (is_in_use topic && stays topic) (Some (snapshot s topic)) None
+  lookup-left : (topic : Topic) → lookup (same_topic topic) (taken_at_end terms s) ≡ cond (stays topic && is_in_use topic) (Some (snapshot s topic)) None
   lookup-left topic =
       lookup-of_topics (snapshot s) (filter stays (topics_in_use terms s)) topic
-      ∙ ap (λ b. cond b (Some (snapshot s topic)) None) (listed-filter stays (topics_in_use terms s) topic ∙ ap (λ b. b && stays topic) (listed_in_use topic))
+      ∙ ap (λ b. cond b (Some (snapshot s topic)) None) (listed-filter stays (topics_in_use terms s) topic ∙ ap (λ b. stays topic && b) (listed_in_use topic))
 
   -- what a cell reads is in use
   read_in_use : (cell : Cell) (topic : Topic) → cell_reads (setting_of terms s) s.book.contents cell topic ≡ true → is_in_use topic ≡ true
@@ -119,15 +119,11 @@ module _ (terms : HostTerms) (s : State) (kept : KeepsClean terms s) where
       some_among (λ c. cell_reads (setting_of terms s) s.book.contents c topic) (formula_cells s.book.contents) cell
       (formula_cells-has s.book.contents kept.ordered cell ∙ reads_formula (setting_of terms s) s.book.contents cell topic reads) reads
 
-  nothing : (a b : Bool) → b ≡ false → (a && b) ≡ false
-  nothing true b h = h
-  nothing false b h = refl
-
+  -- what is an unknown server's doesn't stay connected, and what is a known one's does
   unknown_leaves : (topic : Topic) → knows_server s topic.server ≡ false → lookup (same_topic topic) (taken_at_end terms s) ≡ None
   unknown_leaves topic unknown =
       lookup-left topic
-      ∙ ap (λ b. cond b (Some (snapshot s topic)) None)
-      (nothing (is_in_use topic) (stays topic) (ap (λ b. b && not (is_listed (failed_topics s) topic)) unknown))
+      ∙ ap (λ b. cond ((b && not (is_listed (failed_topics s) topic)) && is_in_use topic) (Some (snapshot s topic)) None) unknown
 
   known_stays : (topic : Topic) → knows_server s topic.server ≡ true → stays topic ≡ true
   known_stays topic known = ap (λ b. b && not (is_listed (failed_topics s) topic)) known ∙ ap (λ topics. not (is_listed topics topic)) kept.failed
@@ -150,5 +146,5 @@ module _ (terms : HostTerms) (s : State) (kept : KeepsClean terms s) where
     where
       by_server : (cell : Cell) (topic : Topic) → cell_reads (setting_of terms s) s.book.contents cell topic ≡ true → (b : Bool) → knows_server s topic.server ≡ b → IsAsCompleted (after_done terms s) topic
       by_server cell topic reads true known =
-          inl (lookup-left topic ∙ ap (λ b. cond b (Some (snapshot s topic)) None) (ap (λ b. b && stays topic) (read_in_use cell topic reads) ∙ known_stays topic known))
+          inl (lookup-left topic ∙ ap (λ b. cond b (Some (snapshot s topic)) None) (ap (λ b. b && is_in_use topic) (known_stays topic known) ∙ read_in_use cell topic reads))
       by_server cell topic reads false unknown = inr (unknown, value_of_unknown s kept.failed kept.taken kept.opening topic unknown)

@@ -1,65 +1,33 @@
 -- Lists of topics, and of topics with values: what is found in them, and that they differ.
-use Rattle.std.proofs.Common.{◌≡◌, ℕ, Bool, true, false, not, ◌&&◌, ◌||◌, cond, List, [], ◌∷◌, ◌++◌, map, length, Option, Some, None, refl, ap, sym, subst, ◌∙◌}
+use Rattle.std.proofs.Common.{◌≡◌, Bool, true, false, not, ◌&&◌, ◌||◌, cond, List, [], ◌∷◌, ◌++◌, map, Option, Some, None, refl, ap, sym, subst, ◌∙◌}
 use Rattle.std.specs.Cmp.Lexicographic.{pointwise}
 use Rattle.std.specs.List.{AllByRecursion, IsDistinct, filter, flat_map, list_any}
 use Rattle.std.specs.Map.{keys_of, lookup}
-use Rattle.std.specs.Option.{is_some, option_map_or, option_or}
+use Rattle.std.specs.Option.{option_map_or, option_or}
 use Rattle.std.specs.Str.{bytes_eq}
 use Rattle.std.proofs.lemmas.List.Folds.{list_any-append}
 use Rattle.std.proofs.lemmas.Map.Keys.{IsDistinct-head, IsDistinct-tail, IsDistinct-cons}
-use Rattle.std.proofs.lemmas.Map.Made.{IsDistinct-keys_filter, is_some-lookup, length-from_same_keys}
-use Rattle.std.proofs.lemmas.Slice.Eq.{bytes_eq-Decides}
+use Rattle.std.proofs.lemmas.Map.Views.{any-filter_same}
+use Rattle.std.proofs.lemmas.Bool.{and_parts}
+use Rattle.std.proofs.lemmas.Slice.Eq.{bytes_eq-Decides, slice_eq-Decides}
 use Rattle.cell_values.specs.declared.topics.Topic.{Topic}
-use Rattle.cell_values.specs.declared.values.Value.{Value}
 use Rattle.cell_values.specs.Topic.{same_topic}
-use Rattle.cell_values.proofs.PublicLaws.{same_topics, same_topic-refl}
+use Rattle.cell_values.proofs.PublicLaws.{same_topics}
 use Rattle.workbook.specs.Reads.{is_listed}
 use Rattle.workbook.specs.Step.{topics_once}
 
--- ---- tests
-first_of_two : (a b : Bool) → (a && b) ≡ true → a ≡ true
-first_of_two true b h = refl
-first_of_two false b h = h
-
-second_of_two : (a b : Bool) → (a && b) ≡ true → b ≡ true
-second_of_two true b h = h
-second_of_two false b h = cc
-
 -- ---- topics that are one
-same_texts : (xs ys : List (List ℕ)) → pointwise bytes_eq xs ys ≡ true → xs ≡ ys
-same_texts [] [] h = refl
-same_texts [] (y ∷ ys) h = cc
-same_texts (x ∷ xs) [] h = cc
-same_texts (x ∷ xs) (y ∷ ys) h =
-    let first : x ≡ y = (bytes_eq-Decides x y).0 (first_of_two (bytes_eq x y) (pointwise bytes_eq xs ys) h) in
-    let others : xs ≡ ys = same_texts xs ys (second_of_two (bytes_eq x y) (pointwise bytes_eq xs ys) h) in
-    cc
-
--- the same topics are one
 pub same_topic_is : (a b : Topic) → same_topic a b ≡ true → a ≡ b
 same_topic_is a b h =
-    let server : a.server ≡ b.server = (bytes_eq-Decides a.server b.server).0 (first_of_two (bytes_eq a.server b.server) (pointwise bytes_eq a.strings b.strings) h) in
-    let strings : a.strings ≡ b.strings = same_texts a.strings b.strings (second_of_two (bytes_eq a.server b.server) (pointwise bytes_eq a.strings b.strings) h) in
+    let both = and_parts (bytes_eq a.server b.server) (pointwise bytes_eq a.strings b.strings) h in
+    let server : a.server ≡ b.server = (bytes_eq-Decides a.server b.server).0 both.0 in
+    let strings : a.strings ≡ b.strings = (slice_eq-Decides bytes_eq-Decides a.strings b.strings (pointwise bytes_eq a.strings b.strings) refl).0 both.1 in
     λ i. record { server = server i; strings = strings i }
 
 -- ---- what is listed
 -- what passes of a list
-pub listed-filter : (p : Topic → Bool) (topics : List Topic) (t : Topic) → is_listed (filter p topics) t ≡ (is_listed topics t && p t)
-listed-filter p [] t = refl
-listed-filter p (u ∷ topics) t =
-    elim (p u) as (λ b. p u ≡ b → is_listed (cond b (u ∷ filter p topics) (filter p topics)) t ≡ ((same_topic t u || is_listed topics t) && p t)) [
-      | true ↦ λ e. ap (λ b. same_topic t u || b) (listed-filter p topics t) ∙ passed (same_topic t u) (is_listed topics t) (p t) (λ same. ap p (same_topic_is t u same) ∙ e)
-      | false ↦ λ e. listed-filter p topics t ∙ failed (same_topic t u) (is_listed topics t) (p t) (λ same. ap p (same_topic_is t u same) ∙ e)
-    ] refl
-  where
-    passed : (a b c : Bool) → (a ≡ true → c ≡ true) → (a || (b && c)) ≡ ((a || b) && c)
-    passed true b c leads = sym (leads refl)
-    passed false b c leads = refl
-
-    failed : (a b c : Bool) → (a ≡ true → c ≡ false) → (b && c) ≡ ((a || b) && c)
-    failed true true c leads = refl
-    failed true false c leads = sym (leads refl)
-    failed false b c leads = refl
+pub listed-filter : (p : Topic → Bool) (topics : List Topic) (t : Topic) → is_listed (filter p topics) t ≡ (p t && is_listed topics t)
+listed-filter p topics t = any-filter_same (same_topic t) p (p t) (λ u is. ap p (sym (same_topic_is t u is))) topics
 
 -- what is listed in one of several lists
 pub listed-flat_map : {X : Type 0} (f : X → List Topic) (xs : List X) (t : Topic) → is_listed (flat_map f xs) t ≡ list_any (λ x. is_listed (f x) t) xs
@@ -70,13 +38,12 @@ listed-flat_map f (x ∷ xs) t = list_any-append (same_topic t) (f x) (flat_map 
 pub listed-topics_once : (topics : List Topic) (t : Topic) → is_listed (topics_once topics) t ≡ is_listed topics t
 listed-topics_once [] t = refl
 listed-topics_once (u ∷ topics) t =
-    ap (λ b. same_topic t u || b) (listed-filter (λ other. not (same_topic u other)) (topics_once topics) t ∙ ap (λ b. b && not (same_topic u t)) (listed-topics_once topics t))
+    ap (λ b. same_topic t u || b) (listed-filter (λ other. not (same_topic u other)) (topics_once topics) t ∙ ap (λ b. not (same_topic u t) && b) (listed-topics_once topics t))
     ∙ absorbed (same_topic t u) (is_listed topics t) (same_topic u t) (same_topics.symm u t)
   where
-    absorbed : (a b c : Bool) → c ≡ a → (a || (b && not c)) ≡ (a || b)
+    absorbed : (a b c : Bool) → c ≡ a → (a || (not c && b)) ≡ (a || b)
     absorbed true b c e = refl
-    absorbed false true c e = ap not e
-    absorbed false false c e = refl
+    absorbed false b c e = ap (λ d. not d && b) e
 
 all_where : (P : Topic → Type 0) (p : Topic → Bool) → ((u : Topic) → p u ≡ true → P u) → (topics : List Topic) → AllByRecursion P (filter p topics)
 all_where P p leads [] = tt

@@ -1,6 +1,6 @@
 -- A formula without an RTD call reads no topic.
-use Rattle.std.proofs.Common.{◌≡◌, ℕ, ℤ, zero, suc, ◌+◌, ◌-◌, ◌==◌, pos, int_lt, unsigned_abs, Bool, true, false, cond, ◌&&◌, List, [], ◌∷◌, ◌++◌, map, length, slice_get, All, Option, Some, None, Result, Ok, Err, refl, ap, sym, subst, ◌∙◌}
-use Rattle.std.specs.List.{list_any, flat_map, AllByRecursion}
+use Rattle.std.proofs.Common.{◌≡◌, ℕ, ℤ, zero, suc, ◌+◌, ◌-◌, ◌==◌, pos, int_lt, unsigned_abs, Bool, true, false, cond, ◌&&◌, List, [], ◌∷◌, map, length, slice_get, All, Option, Some, None, Result, Ok, Err, refl, ap, sym, subst, ◌∙◌}
+use Rattle.std.specs.List.{list_any, AllByRecursion}
 use Rattle.std.specs.Option.{option_map_or}
 use Rattle.std.proofs.lemmas.List.Elements.{All-head, All-tail}
 use Rattle.std.proofs.lemmas.List.Folds.{list_any-append}
@@ -9,10 +9,8 @@ use Rattle.addin_types.specs.declared.registrations.Kind.TheVariants as kinds
 use Rattle.addin_types.specs.declared.registrations.Registration.{Registration}
 use Rattle.cell_refs.specs.declared.areas.Area.{Area}
 use Rattle.cell_refs.specs.declared.grid.Cell.{Cell}
-use Rattle.cell_refs.specs.declared.references.RefText.{RefText}
 use Rattle.cell_values.specs.declared.errors.ErrorKind.{ErrorKind}
 use Rattle.cell_values.specs.declared.errors.ErrorKind.TheVariants as errors
-use Rattle.cell_values.specs.declared.texts.Text.{Text}
 use Rattle.cell_values.specs.declared.topics.Topic.{Topic}
 use Rattle.cell_values.specs.declared.values.Value.{Value}
 use Rattle.cell_values.specs.Coercion.{truth_of}
@@ -173,24 +171,6 @@ module _ (world : World) where
   free_as : (part step : Part) → part ≡ step → HasFree step → HasFree part
   free_as part step e h = subst HasFree (sym e) h
 
-  free_number : (n : ℤ) → IsFreeNode (nodes.Number n)
-  free_number n none = free_as _ _ (fold_number Part (part_step world) n) (λ before. refl)
-
-  free_text : (t : Text) → IsFreeNode (nodes.Text t)
-  free_text t none = free_as _ _ (fold_text Part (part_step world) t) (λ before. refl)
-
-  free_error : (e : ErrorKind) → IsFreeNode (nodes.Error e)
-  free_error e none = free_as _ _ (fold_error Part (part_step world) e) (λ before. refl)
-
-  free_boolean : (b : Bool) → IsFreeNode (nodes.Boolean b)
-  free_boolean b none = free_as _ _ (fold_boolean Part (part_step world) b) (λ before. refl)
-
-  free_reference : (r : RefText) → IsFreeNode (nodes.Reference r)
-  free_reference r none = free_as _ _ (fold_reference Part (part_step world) r) (λ before. refl)
-
-  free_area : (a b : RefText) → IsFreeNode (nodes.Area a b)
-  free_area a b none = free_as _ _ (fold_area Part (part_step world) a b) (λ before. refl)
-
   step_call : (callee : Callee) (parts : List Part) → is_rtd callee ≡ false → AllByRecursion HasFree parts → HasFree (part_step world (layer.Call callee parts))
   step_call callee parts h each before =
       let arguments = arguments_of (before + own_site callee) parts in
@@ -223,7 +203,12 @@ module _ (world : World) where
 
   free_tree : (tree : Node) → IsFreeNode tree
   free_tree = node_induction IsFreeNode
-      free_number free_text free_error free_boolean free_reference free_area
+      (λ n none. free_as _ _ (fold_number Part (part_step world) n) (λ before. refl))
+      (λ t none. free_as _ _ (fold_text Part (part_step world) t) (λ before. refl))
+      (λ e none. free_as _ _ (fold_error Part (part_step world) e) (λ before. refl))
+      (λ b none. free_as _ _ (fold_boolean Part (part_step world) b) (λ before. refl))
+      (λ r none. free_as _ _ (fold_reference Part (part_step world) r) (λ before. refl))
+      (λ a b none. free_as _ _ (fold_area Part (part_step world) a b) (λ before. refl))
       free_call free_parentheses free_negation free_chain
 
 -- a formula without an RTD call reads no topic
