@@ -27,7 +27,8 @@ opening_topics s = option_map_or (λ running. running.opening) s.running []
 abbrev pub AreOfKnown : State → List (Topic × Value) → Type 0
 AreOfKnown s topics = (topic : Topic) → knows_server s topic.server ≡ false → lookup (same_topic topic) topics ≡ None
 
--- a topic is connected with the value that it had in the last completed recalculation, or its server is unknown, and it was #N/A
+-- a topic is connected with the value that it had in the last completed recalculation, or its server is unknown, and it
+-- was #N/A
 abbrev pub IsAsCompleted : State → Topic → Type 0
 IsAsCompleted s topic =
     (lookup (same_topic topic) s.taken ≡ Some (value_among s.completed.topics topic))

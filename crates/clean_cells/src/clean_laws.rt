@@ -28,8 +28,8 @@ pub fn every_state_is_alike()
         s.completed.book.contents s.book.contents s.changed }
 {}
 
-/// A formula cell that isn't stale means the same, and reads the same topics, as in the last completed
-/// recalculation.
+/// A formula cell that isn't stale means the same, and reads the same topics, as in the last
+/// completed recalculation.
 pub fn a_clean_cell_keeps_its_meaning()
     ensures meaning { (terms : HostTerms) (attempts : List Attempt) (cell : Cell)
         → let s = state_after_attempts terms first_state attempts in

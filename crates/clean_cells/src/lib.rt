@@ -1,5 +1,5 @@
-//! A law of every history: a formula cell that isn't stale means what it meant at the last completed
-//! recalculation.
+//! A law of every history: a formula cell that isn't stale means what it meant at the last
+//! completed recalculation.
 #![tactic(auto)]
 
 mod clean_laws;
