@@ -1,6 +1,6 @@
 -- A server comes.
-use Rattle.std.proofs.Common.{◌≡◌, ℕ, Bool, true, false, cond, ◌||◌, List, [], ◌∷◌, ◌++◌, ◌⊎◌, inl, inr, Option, None, Some, refl, ap, sym, subst, ◌∙◌, rules}
-use Rattle.std.specs.Prelude.{is_some, map, unwrap_or}
+use Rattle.std.proofs.Common.{◌≡◌, ℕ, Bool, true, false, cond, List, [], ◌∷◌, ◌++◌, ◌⊎◌, inl, inr, Option, None, Some, refl, ap, sym, subst, ◌∙◌}
+use Rattle.std.specs.Prelude.{is_some, unwrap_or}
 use Rattle.std.specs.List.{IsDistinct, list_any}
 use Rattle.std.specs.Option.{option_and_then, option_or}
 use Rattle.std.specs.Str.{bytes_eq}
@@ -15,7 +15,7 @@ use Rattle.known_servers.specs.Server.{IsNewView, ServerParts, has_name, view_of
 use Rattle.rtd_server.specs.Server.{ServerState}
 use Rattle.rtd_topics.specs.Parts.{IsLinked, names_of, opening_of, published_of, server_named, strings_for}
 use Rattle.rtd_topics.specs.RtdState.{SameOpening}
-use Rattle.rtd_topics.proofs.ServerLists.{equal_names, found-named, itself}
+use Rattle.rtd_topics.proofs.ServerLists.{equal_names}
 use Rattle.topic_table.specs.Table.{ConnectedTopic, TableState, topic_at}
 
 -- a server of a name, after one came

@@ -1,7 +1,6 @@
 -- A topic is connected.
-use Rattle.std.proofs.Common.{◌≡◌, ◌<◌, ◌≤◌, ◌+◌, ℕ, Bool, true, false, cond, ◌||◌, List, [], ◌∷◌, ◌++◌, ◌⊎◌, inl, inr, Option, None, Some, refl, ap, sym, subst, ◌∙◌, append-nil, arith, rules}
-use Rattle.std.specs.Prelude.{◌&&◌, All, IsOk, OnOk, Result, Ok, Err, filter, find, is_some, map, nat_eq, not, unwrap_or}
-use Rattle.std.specs.Bool.{MatchBool}
+use Rattle.std.proofs.Common.{◌≡◌, ◌≤◌, ◌+◌, ℕ, Bool, true, false, cond, ◌||◌, List, [], ◌∷◌, ◌++◌, ◌⊎◌, inl, inr, Option, None, Some, refl, ap, sym, subst, ◌∙◌, append-nil, arith, rules}
+use Rattle.std.specs.Prelude.{◌&&◌, All, IsOk, OnOk, Result, Ok, Err, filter, find, is_some, nat_eq, not, unwrap_or}
 use Rattle.std.specs.List.{list_any}
 use Rattle.std.specs.Map.{lookup}
 use Rattle.std.specs.Option.{option_and_then, option_map, option_map_or, option_or}
@@ -17,19 +16,16 @@ use Rattle.cell_values.specs.declared.topics.Topic.{Topic}
 use Rattle.cell_values.specs.declared.values.Value.{Value}
 use Rattle.cell_values.specs.declared.values.Value.TheVariants as values
 use Rattle.cell_values.specs.Topic.{same_topic}
-use Rattle.cell_values.proofs.PublicLaws.{same_topics}
 use Rattle.known_servers.specs.Server.{IsCurrent, SameView, ServerParts, ViewConnects, view_of}
 use Rattle.rtd_server.specs.Server.{ServerState}
 use Rattle.rtd_server.specs.Strings.{Strings}
-use Rattle.rtd_topics.specs.Parts.{ConnectsAt, ConnectsServer, IsLinked, RtdParts, is_of_round, known_of, names_of, opening_of, rtd_of, server_named, strings_for, topic_has, with_value}
-use Rattle.rtd_topics.specs.RtdState.{knows_topic, rtd_snapshot, source_of}
+use Rattle.rtd_topics.specs.Parts.{ConnectsAt, ConnectsServer, IsLinked, is_of_round, names_of, opening_of, server_named, strings_for, topic_has}
 use Rattle.rtd_topics.proofs.Adding.{added-cases}
 use Rattle.rtd_topics.proofs.Linking.{once-kept, opening-kept}
 use Rattle.rtd_topics.proofs.Publishing.{match-cases}
-use Rattle.rtd_topics.proofs.ServerLists.{both-found, both-new, equal_names, itself}
+use Rattle.rtd_topics.proofs.ServerLists.{both-found, both-new, itself}
 use Rattle.rtd_topics.proofs.TableFacts.{all-found, found-passes, turned}
 use Rattle.rtd_topics.proofs.Views.{current-kept}
-use Rattle.topic_source.specs.Source.{KeepsValues}
 use Rattle.topic_table.specs.Table.{ConnectedTopic, KeepsReaders, Readings, TableState, has_read, has_reader, id_of, topic_at}
 
 -- what holds of an Ok holds where it is one

@@ -1,5 +1,5 @@
 -- An id is taken out at a server.
-use Rattle.std.proofs.Common.{◌≡◌, ◌<◌, ℕ, zero, suc, Bool, true, false, cond, ◌||◌, List, [], ◌∷◌, arith, length, Option, None, Some, get_or, set, refl, ap, sym, subst, ◌∙◌}
+use Rattle.std.proofs.Common.{◌≡◌, ◌<◌, ℕ, zero, suc, Bool, true, false, cond, ◌||◌, List, [], ◌∷◌, arith, length, None, Some, get_or, set, refl, ap, sym, subst, ◌∙◌}
 use Rattle.std.specs.Prelude.{is_some, map, position}
 use Rattle.std.specs.List.{IsDistinct, list_any}
 use Rattle.std.proofs.lemmas.List.Quantifiers.{position-Some}
@@ -11,7 +11,7 @@ use Rattle.rtd_server.specs.Server.{ServerState}
 use Rattle.rtd_server.specs.Strings.{Strings}
 use Rattle.rtd_topics.specs.Parts.{ConnectsAt, ConnectsServer, DisconnectsAt, DisconnectsServer, FlagsAt, KeepsAt, KeepsServer, PublishesAt, PublishesServer, ShowsSame, known_of, names_of, server_named}
 use Rattle.workbook.specs.Step.{servers_with_flag}
-use Rattle.rtd_topics.proofs.ServerLists.{distinct-parts, follows-none, follows-set, equal_names, find-first, found-named, itself, known-item, map-set_same, none-named}
+use Rattle.rtd_topics.proofs.ServerLists.{distinct-parts, follows-none, follows-set, equal_names, find-first, found-named, itself, known-item, none-named}
 use Rattle.rtd_topics.proofs.Views.{keeps-itself}
 
 -- where the test is true, the first

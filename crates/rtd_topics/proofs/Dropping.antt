@@ -1,6 +1,6 @@
 -- Topics leave the table.
-use Rattle.std.proofs.Common.{◌≡◌, ◌<◌, ◌≤◌, ℕ, Bool, true, false, cond, ◌||◌, List, [], ◌∷◌, Option, None, Some, length, refl, ap, sym, subst, ◌∙◌, arith, rules}
-use Rattle.std.specs.Prelude.{◌&&◌, All, IfNone, IfSome, filter, find, is_some, map, nat_eq, not}
+use Rattle.std.proofs.Common.{◌≡◌, ◌<◌, ◌≤◌, ℕ, Bool, true, false, cond, ◌||◌, List, [], ◌∷◌, Option, None, Some, length, refl, ap, sym, subst, ◌∙◌, rules}
+use Rattle.std.specs.Prelude.{◌&&◌, All, IfNone, IfSome, filter, find, is_some, nat_eq, not}
 use Rattle.std.specs.List.{list_any}
 use Rattle.std.specs.Option.{option_and_then, option_map}
 use Rattle.std.specs.Str.{bytes_eq}
@@ -22,7 +22,7 @@ use Rattle.rtd_topics.proofs.TableFacts.{filter-all, found-passes, id-found, wit
 use Rattle.rtd_topics.proofs.Connecting.{linked-table}
 use Rattle.rtd_topics.proofs.TopicFacts.{Rises, at-self, first-pairs, other-pairs}
 use Rattle.rtd_topics.proofs.Views.{current-kept}
-use Rattle.topic_table.specs.Table.{ConnectedTopic, KeepsTable, TableState, TakesOut, has_read, has_reader, is_no_cell, leaving, readers_of, topic_at, topics_without}
+use Rattle.topic_table.specs.Table.{ConnectedTopic, KeepsTable, TableState, TakesOut, has_reader, is_no_cell, leaving, readers_of, topic_at, topics_without}
 
 -- the connections of the server of the topic that leaves, and of another
 leaves-strings : (b h : Bool) (c c' s s' : Option Strings) → c ≡ s → c' ≡ (cond h (cond b None c) c) → s' ≡ cond b None s → (b ≡ true → h ≡ false → s ≡ None) → c' ≡ s'

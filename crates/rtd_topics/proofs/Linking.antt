@@ -1,10 +1,8 @@
 -- The servers and the table stay linked.
-use Rattle.std.proofs.Common.{◌≡◌, ◌≢◌, ℕ, ◌+◌, ◌<◌, ◌≤◌, Bool, true, false, cond, List, [], ◌∷◌, ◌++◌, Option, None, Some, refl, ap, sym, subst, ◌∙◌, arith, rules}
+use Rattle.std.proofs.Common.{◌≡◌, ℕ, ◌<◌, ◌≤◌, Bool, true, false, List, Option, Some, ap, sym, subst, ◌∙◌, arith}
 use Rattle.std.proofs.lemmas.List.Elements.{All-same, All-weaker}
-use Rattle.std.specs.Prelude.{◌&&◌, All, AllPairs, is_some, nat_eq, not, unwrap_or}
-use Rattle.std.specs.Bool.{MatchBool}
+use Rattle.std.specs.Prelude.{is_some, nat_eq, unwrap_or}
 use Rattle.std.specs.List.{AllZip, IsDistinct}
-use Rattle.std.specs.Option.{option_and_then}
 use Rattle.std.specs.Str.{bytes_eq}
 use Rattle.std.proofs.lemmas.Bool.{eqb-true}
 use Rattle.cell_refs.specs.declared.grid.Cell.{Cell}
@@ -12,14 +10,14 @@ use Rattle.cell_values.specs.declared.topics.Topic.{Topic}
 use Rattle.cell_values.specs.declared.values.Value.{Value}
 use Rattle.cell_values.specs.declared.values.Value.TheVariants as values
 use Rattle.cell_values.specs.declared.errors.ErrorKind.TheVariants as errors
-use Rattle.known_servers.specs.Server.{IsCurrent, SameView, ServerParts, ServerView, ViewDisconnects, view_of}
+use Rattle.known_servers.specs.Server.{ServerParts, view_of}
 use Rattle.rtd_server.specs.Server.{ServerState}
 use Rattle.rtd_server.specs.Strings.{Strings}
-use Rattle.rtd_topics.specs.Parts.{Both, DisconnectsAt, DisconnectsServer, Follows, IsLinked, OpensServer, is_of_round, names_of, opening_of, published_of, server_named, strings_for}
+use Rattle.rtd_topics.specs.Parts.{Follows, IsLinked, OpensServer, names_of, opening_of, published_of, server_named, strings_for}
 use Rattle.rtd_topics.proofs.ServerLists.{both-found, both-new, both-then, follows-zip}
-use Rattle.rtd_topics.proofs.TableFacts.{all-found, strings-at, turned, without-at, without-found}
+use Rattle.rtd_topics.proofs.TableFacts.{all-found, strings-at}
 use Rattle.rtd_topics.proofs.Views.{KeepsLink, current-kept}
-use Rattle.topic_table.specs.Table.{ConnectedTopic, KeepsReaders, KeepsRunning, KeepsTopics, TableState, TakesOut, has_read, has_reader, topic_at}
+use Rattle.topic_table.specs.Table.{ConnectedTopic, KeepsReaders, KeepsTopics, TableState, has_read, has_reader, topic_at}
 
 -- names that stand once stay so where they are the same
 pub once-kept : (ns ns' : List (List ℕ)) → ns' ≡ ns → IsDistinct bytes_eq ns → IsDistinct bytes_eq ns'

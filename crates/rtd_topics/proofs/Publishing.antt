@@ -1,16 +1,15 @@
 -- A server publishes, a flag is raised, a server comes.
-use Rattle.std.proofs.Common.{◌≡◌, ℕ, Bool, true, false, cond, ◌||◌, List, [], ◌∷◌, ◌++◌, Option, None, Some, refl, ap, sym, subst, ◌∙◌, rules}
-use Rattle.std.specs.Prelude.{◌&&◌, is_some, map}
+use Rattle.std.proofs.Common.{◌≡◌, ℕ, Bool, true, false, cond, List, Option, None, Some, refl, ap, sym, ◌∙◌}
+use Rattle.std.specs.Prelude.{◌&&◌, is_some}
 use Rattle.std.specs.Bool.{MatchBool}
-use Rattle.std.specs.Cmp.Lexicographic.{pointwise}
 use Rattle.std.specs.Option.{option_and_then}
 use Rattle.std.specs.Str.{bytes_eq}
 use Rattle.cell_values.specs.declared.topics.Topic.{Topic}
 use Rattle.cell_values.specs.declared.values.Value.{Value}
-use Rattle.known_servers.specs.Server.{SameName, SameView, ServerParts, ViewPublishes, view_of}
+use Rattle.known_servers.specs.Server.{SameView, ServerParts, ViewPublishes, view_of}
 use Rattle.rtd_server.specs.Server.{ServerState}
 use Rattle.rtd_server.specs.Strings.{Strings, same_strings}
-use Rattle.rtd_topics.specs.Parts.{Both, Follows, KeepsAt, KeepsServer, PublishesAt, PublishesServer, ShowsSame, published_of, server_named}
+use Rattle.rtd_topics.specs.Parts.{Both, PublishesAt, PublishesServer, ShowsSame, published_of, server_named}
 use Rattle.rtd_topics.proofs.ServerLists.{equal_names}
 use Rattle.rtd_topics.proofs.Views.{KeepsLink, link-kept, link-published}
 

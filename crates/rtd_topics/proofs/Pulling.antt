@@ -13,7 +13,6 @@ use Rattle.cell_values.specs.Topic.{same_topic}
 use Rattle.known_servers.specs.Server.{IsCurrent, IsGathered, ServerParts, has_name, view_of}
 use Rattle.rtd_server.specs.Server.{ServerState, news_of}
 use Rattle.rtd_server.specs.Strings.{Strings}
-use Rattle.workbook.specs.State.{KnownServer}
 use Rattle.workbook.specs.Pulling.{gives_values, pulled_servers}
 use Rattle.rtd_topics.specs.Parts.{IsLinked, IsPrepared, IsPreparedServer, KeepsReadings, RtdParts, TakesServer, is_of_round, known_of, names_of, published_of, rtd_of, server_named, sorted_news, strings_for, topic_has, topics_after, topics_after_one, with_value}
 use Rattle.rtd_topics.specs.RtdState.{value_pulled, with_value_pulled}
@@ -21,7 +20,7 @@ use Rattle.rtd_topics.proofs.Connecting.{kept-readings, not-so, running-readings
 use Rattle.rtd_topics.proofs.Linking.{once-kept, published-kept}
 use Rattle.rtd_topics.proofs.RtdFacts.{none-at_rest, taken-all}
 use Rattle.rtd_topics.proofs.ServerLists.{both-found, both-new, distinct-parts, equal_names, follows-zip, found-named, itself}
-use Rattle.rtd_topics.proofs.TableFacts.{all-found, found-passes, id-found}
+use Rattle.rtd_topics.proofs.TableFacts.{all-found, id-found}
 use Rattle.rtd_topics.proofs.TopicFacts.{Rises, first-pairs, other-pairs}
 use Rattle.topic_table.specs.Table.{ConnectedTopic, TableState, id_of, topic_at}
 

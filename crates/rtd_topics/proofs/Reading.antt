@@ -1,9 +1,8 @@
 -- A topic is read.
-use Rattle.std.proofs.Common.{◌≡◌, ℕ, Bool, true, false, cond, ◌||◌, List, [], ◌∷◌, Option, None, Some, refl, ap, sym, subst, ◌∙◌, rules}
-use Rattle.std.specs.Prelude.{◌&&◌, filter, find, is_some, map, nat_eq, not, unwrap_or}
+use Rattle.std.proofs.Common.{◌≡◌, ℕ, Bool, true, false, cond, ◌||◌, List, Option, None, Some, refl, ap, sym, ◌∙◌, rules}
+use Rattle.std.specs.Prelude.{◌&&◌, find, is_some, map, nat_eq, not, unwrap_or}
 use Rattle.std.proofs.lemmas.Bool.{eqb-true}
 use Rattle.std.specs.List.{list_any}
-use Rattle.std.specs.Map.{lookup}
 use Rattle.std.specs.Option.{option_and_then, option_map_or}
 use Rattle.std.specs.Str.{bytes_eq}
 use Rattle.cell_refs.specs.declared.grid.Cell.{Cell}
@@ -14,16 +13,15 @@ use Rattle.cell_values.specs.declared.topics.Topic.{Topic}
 use Rattle.cell_values.specs.declared.values.Value.{Value}
 use Rattle.cell_values.specs.declared.values.Value.TheVariants as values
 use Rattle.cell_values.specs.Topic.{same_topic}
-use Rattle.cell_values.proofs.PublicLaws.{same_topics, same_topic-refl}
+use Rattle.cell_values.proofs.PublicLaws.{same_topics}
 use Rattle.known_servers.specs.Server.{ServerParts}
 use Rattle.rtd_server.specs.Server.{ServerState}
 use Rattle.rtd_server.specs.Strings.{same_strings_is}
-use Rattle.rtd_topics.specs.Parts.{IsLinked, RtdParts, is_of_round, known_of, names_of, opening_of, rtd_of, server_named, topic_has, with_value}
+use Rattle.rtd_topics.specs.Parts.{IsLinked, RtdParts, is_of_round, known_of, opening_of, rtd_of, server_named, topic_has}
 use Rattle.rtd_topics.specs.RtdState.{knows_topic, rtd_snapshot, source_of}
 use Rattle.rtd_topics.proofs.ServerLists.{equal_names, found-named, names-known}
-use Rattle.rtd_topics.proofs.TopicFacts.{Rises, StandOnce, and_first, at-self, found-equal, id-absent, id-of, id-there, value-absent, value-kept}
-use Rattle.topic_source.specs.Source.{KeepsValues}
-use Rattle.topic_table.specs.Table.{ConnectedTopic, TableState, has_read, id_of, topic_at}
+use Rattle.rtd_topics.proofs.TopicFacts.{Rises, StandOnce, and_first, at-self, found-equal, id-absent, id-there, value-absent, value-kept}
+use Rattle.topic_table.specs.Table.{ConnectedTopic, id_of, topic_at}
 
 and_second : (b c : Bool) → (b && c) ≡ true → c ≡ true
 and_second true c h = h

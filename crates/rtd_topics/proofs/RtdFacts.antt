@@ -1,20 +1,20 @@
 -- What a host keeps of real-time data, where its parts change.
-use Rattle.std.proofs.Common.{◌≡◌, ◌≢◌, ℕ, ◌+◌, ◌<◌, ◌≤◌, Bool, true, false, cond, ◌||◌, List, [], ◌∷◌, ◌++◌, Option, None, Some, get_or, refl, ap, sym, subst, ◌∙◌, arith, rules}
-use Rattle.std.specs.Prelude.{◌&&◌, All, filter, is_some, map, nat_eq, not}
+use Rattle.std.proofs.Common.{◌≡◌, ℕ, ◌<◌, ◌≤◌, Bool, true, false, cond, ◌||◌, List, [], ◌∷◌, Option, None, Some, get_or, refl, ap, sym, subst, ◌∙◌, arith, rules}
+use Rattle.std.specs.Prelude.{◌&&◌, All, filter, is_some, nat_eq, not}
 use Rattle.std.specs.List.{AllZip, list_any}
 use Rattle.std.specs.Option.{option_map_or}
 use Rattle.std.proofs.lemmas.Bool.{eqb-true}
-use Rattle.std.proofs.lemmas.List.Elements.{All-same, All-weaker}
+use Rattle.std.proofs.lemmas.List.Elements.{All-weaker}
 use Rattle.cell_refs.specs.declared.grid.Cell.{Cell}
 use Rattle.cell_values.specs.declared.topics.Topic.{Topic}
 use Rattle.cell_values.specs.declared.values.Value.{Value}
 use Rattle.known_servers.specs.Server.{ServerParts, view_of}
 use Rattle.rtd_server.specs.Server.{IsNewServer, KeepsAll, ServerState}
 use Rattle.rtd_topics.specs.RtdState.{RtdState, SameOpening, SameRtd}
-use Rattle.rtd_topics.specs.Parts.{OpensServer, RtdParts, is_of_round, opening_of, published_of, rtd_of, server_named, topic_has, with_value}
+use Rattle.rtd_topics.specs.Parts.{OpensServer, RtdParts, is_of_round, opening_of, published_of, rtd_of, server_named, topic_has}
 use Rattle.rtd_topics.proofs.ServerLists.{both-then_other, follows-zip}
 use Rattle.rtd_topics.proofs.TableFacts.{filter-all}
-use Rattle.topic_table.specs.Table.{ConnectedTopic, TableState, id_of}
+use Rattle.topic_table.specs.Table.{ConnectedTopic, id_of}
 
 -- where nothing runs
 pub none-runs : {X : Type 0} (b : Bool) (x : X) → cond b (Some x) None ≡ None → b ≡ false

@@ -1,7 +1,7 @@
 -- Lists of servers: one is changed, each is changed, one comes.
 use Rattle.std.proofs.Common.{◌≡◌, ℕ, zero, suc, ◌+◌, ◌<◌, Bool, true, false, cond, ◌||◌, List, [], ◌∷◌, ◌++◌, Option, None, Some, length, get_or, set, refl, ap, sym, subst, ◌∙◌, arith, rules}
 use Rattle.std.specs.Prelude.{◌≢◌, ◌≤◌, ◌⊎◌, All, drop, find, is_some, map, position}
-use Rattle.std.specs.List.{AllByRecursion, AllZip, IsDistinct, list_any, position_from, position_or_len}
+use Rattle.std.specs.List.{AllByRecursion, AllZip, IsDistinct, list_any, position_from}
 use Rattle.std.specs.Option.{option_and_then}
 use Rattle.std.specs.Str.{bytes_eq}
 use Rattle.std.proofs.lemmas.List.{drop_all, take_all}

@@ -1,5 +1,5 @@
 -- What a recalculation gets of topics, and what is kept beside, stays.
-use Rattle.std.proofs.Common.{◌≡◌, Bool, cond, List, Option, None, Some, subst}
+use Rattle.std.proofs.Common.{◌≡◌, cond, Option, None, Some, subst}
 use Rattle.std.specs.Prelude.{◌&&◌, filter, is_some, map, not, unwrap_or}
 use Rattle.std.specs.Map.{lookup}
 use Rattle.std.specs.Option.{option_and_then}

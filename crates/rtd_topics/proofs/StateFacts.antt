@@ -1,19 +1,18 @@
 -- What holds of each state of a host's real-time data.
-use Rattle.std.proofs.Common.{◌≡◌, ◌<◌, ℕ, Bool, true, false, cond, List, [], ◌∷◌, Option, None, Some, get_or, refl, ap, sym, subst, ◌∙◌, arith}
-use Rattle.std.specs.Prelude.{◌&&◌, AllPairs, filter, find, is_some, map, not}
-use Rattle.std.specs.List.{IsDistinct, list_any}
+use Rattle.std.proofs.Common.{◌≡◌, ℕ, Bool, true, false, cond, List, [], ◌∷◌, Option, None, Some, refl, ap, sym, subst, ◌∙◌, arith}
+use Rattle.std.specs.Prelude.{filter, find, is_some, map, not}
+use Rattle.std.specs.List.{IsDistinct}
 use Rattle.std.specs.Map.{keys_of, lookup}
 use Rattle.std.specs.Option.{option_and_then}
 use Rattle.std.specs.Str.{bytes_eq}
 use Rattle.std.proofs.lemmas.List.Elements.{All-map, recursion_from_All}
 use Rattle.std.proofs.lemmas.List.Kept.{AllPairs-filter}
-use Rattle.cell_refs.specs.declared.grid.Cell.{Cell}
 use Rattle.cell_values.specs.declared.topics.Topic.{Topic}
 use Rattle.cell_values.specs.declared.values.Value.{Value}
 use Rattle.cell_values.specs.Topic.{same_topic}
 use Rattle.known_servers.specs.Server.{ServerParts, view_of}
 use Rattle.rtd_server.specs.Server.{ServerState}
-use Rattle.rtd_topics.specs.Parts.{IsLinked, RtdParts, is_of_round, known_of, names_of, rtd_of, server_named, with_value}
+use Rattle.rtd_topics.specs.Parts.{IsLinked, RtdParts, is_of_round, known_of, rtd_of, server_named, with_value}
 use Rattle.rtd_topics.specs.RtdState.{IsRtdState, knows_topic}
 use Rattle.rtd_topics.proofs.Reading.{equal_topics, knows-found}
 use Rattle.rtd_topics.proofs.ServerLists.{names-known}

@@ -1,14 +1,9 @@
 -- The table of topics: a topic and its id.
-use Rattle.std.proofs.Common.{◌≡◌, ◌≢◌, ℕ, zero, suc, ◌+◌, ◌<◌, ◌≤◌, Bool, true, false, cond, List, [], ◌∷◌, ◌++◌, Option, None, Some, length, get_or, refl, ap, sym, subst, ◌∙◌, arith, rules}
-use Rattle.std.specs.Prelude.{All, AllPairs, filter, find, is_some, map, nat_eq, not}
-use Rattle.std.specs.Map.{lookup}
-use Rattle.std.specs.Option.{option_and_then, option_map, option_or}
-use Rattle.std.proofs.lemmas.Bool.{eqb-false, eqb-true}
+use Rattle.std.proofs.Common.{◌≡◌, ℕ, suc, ◌<◌, ◌≤◌, Bool, true, false, cond, List, [], ◌∷◌, Option, None, Some, length, refl, ap, sym, subst, ◌∙◌, arith, rules}
+use Rattle.std.specs.Prelude.{All, filter, find, nat_eq, not}
+use Rattle.std.specs.Option.{option_and_then}
+use Rattle.std.proofs.lemmas.Bool.{eqb-true}
 use Rattle.std.proofs.lemmas.List.Elements.{All-head, All-tail}
-use Rattle.std.proofs.lemmas.List.Folds.{find-append}
-use Rattle.cell_values.specs.declared.topics.Topic.{Topic}
-use Rattle.cell_values.specs.declared.values.Value.{Value}
-use Rattle.cell_values.specs.Topic.{same_topic}
 use Rattle.rtd_topics.proofs.ServerLists.{itself}
 use Rattle.rtd_topics.specs.Parts.{strings_for}
 use Rattle.std.specs.Str.{bytes_eq}

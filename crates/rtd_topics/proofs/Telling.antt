@@ -1,12 +1,11 @@
 -- What is told of a pull: how many topics it changes, and the cells that read them.
 use Rattle.std.proofs.Common.{◌≡◌, ◌<◌, ℕ, ◌==◌, Bool, true, false, cond, ◌||◌, List, [], ◌∷◌, Option, None, Some, get_or, length, refl, ap, sym, ◌∙◌, arith, rules}
-use Rattle.std.specs.Prelude.{◌&&◌, All, filter, find, is_some, map, nat_eq, not, unwrap_or}
+use Rattle.std.specs.Prelude.{◌&&◌, All, filter, is_some, map, nat_eq, not, unwrap_or}
 use Rattle.std.specs.List.{AllZip, IsDistinct, list_any}
 use Rattle.std.specs.Map.{keys_of}
 use Rattle.std.specs.Option.{option_map, option_map_or}
 use Rattle.std.specs.Str.{bytes_eq}
 use Rattle.std.specs.Bool.{beq}
-use Rattle.std.specs.Ordering.{int_eq}
 use Rattle.std.proofs.lemmas.Bool.{eqb-true}
 use Rattle.std.proofs.lemmas.Bool.Decides.{Decides-int_eq}
 use Rattle.std.proofs.lemmas.Cmp.{nat_eq_equiv}
@@ -14,7 +13,6 @@ use Rattle.std.proofs.lemmas.List.{length-map}
 use Rattle.std.proofs.lemmas.List.Elements.{All-filter, All-map, recursion_from_All}
 use Rattle.std.proofs.lemmas.List.Folds.{list_any_none}
 use Rattle.std.proofs.lemmas.List.Kept.{AllPairs-filter}
-use Rattle.std.proofs.lemmas.Map.Keys.{IsDistinct-cons}
 use Rattle.std.proofs.lemmas.Map.Made.{length-from_same_keys}
 use Rattle.cell_refs.specs.declared.grid.Cell.{Cell}
 use Rattle.cell_values.specs.declared.topics.Topic.{Topic}
@@ -22,13 +20,12 @@ use Rattle.cell_values.specs.declared.values.Value.{Value}
 use Rattle.cell_values.specs.declared.values.Value.TheVariants as values
 use Rattle.cell_values.specs.Error.{error_code}
 use Rattle.cell_values.specs.SameValue.{same_value}
-use Rattle.cell_values.specs.Topic.{same_topic}
 use Rattle.cell_values.proofs.PublicLaws.{same_topic-refl}
 use Rattle.known_servers.specs.Server.{ServerParts}
 use Rattle.rtd_server.specs.Server.{ServerState}
 use Rattle.workbook.specs.Pulling.{gives_values}
-use Rattle.rtd_topics.specs.Parts.{IsLinked, IsPrepared, IsPreparedServer, KeepsServer, RtdParts, differs, is_news, is_news_of_one, is_of_round, opening_of, rtd_of, server_named, sorted_news, topic_has, with_value}
-use Rattle.rtd_topics.specs.RtdState.{RtdState, SameRtd, is_changed, reads_one, topics_changed, value_pulled}
+use Rattle.rtd_topics.specs.Parts.{IsLinked, IsPrepared, IsPreparedServer, KeepsServer, RtdParts, is_news, is_news_of_one, opening_of, rtd_of, server_named, sorted_news, topic_has, with_value}
+use Rattle.rtd_topics.specs.RtdState.{RtdState, SameRtd, is_changed, reads_one, topics_changed}
 use Rattle.rtd_topics.proofs.Adding.{same-opening_added}
 use Rattle.rtd_topics.proofs.Linking.{opening-kept, published-kept}
 use Rattle.rtd_topics.proofs.Pulling.{all-apart, all-at, any-each, any-named, pulled-at}
@@ -36,7 +33,7 @@ use Rattle.rtd_topics.proofs.RtdFacts.{none-at_rest, taken-all}
 use Rattle.rtd_topics.proofs.ServerLists.{follows-zip, itself, known-zip}
 use Rattle.rtd_topics.proofs.TableFacts.{all-found, id-found}
 use Rattle.rtd_topics.proofs.TopicFacts.{Rises, StandOnce, both-ways, find-at, first-pairs, other-pairs}
-use Rattle.topic_table.specs.Table.{ConnectedTopic, TableState, has_other_value, has_reader, id_of, topic_at}
+use Rattle.topic_table.specs.Table.{ConnectedTopic, TableState, has_other_value, has_reader, topic_at}
 
 -- a value is the same as itself
 pub value-itself : (v : Value) → same_value v v ≡ true

@@ -1,23 +1,14 @@
 -- The topics of the table: each has its own id, and stands once.
-use Rattle.std.proofs.Common.{◌≡◌, ◌<◌, ◌+◌, ℕ, zero, suc, Bool, true, false, cond, List, [], ◌∷◌, Option, None, Some, get_or, length, refl, ap, sym, subst, ◌∙◌, arith, rules}
-use Rattle.std.specs.Prelude.{◌&&◌, All, AllPairs, filter, find, is_some, map, nat_eq, not, unwrap_or}
-use Rattle.std.specs.Cmp.{IsEquivalence}
+use Rattle.std.proofs.Common.{◌≡◌, ◌<◌, ℕ, suc, Bool, true, false, cond, List, [], ◌∷◌, Option, None, Some, get_or, refl, ap, sym, subst, ◌∙◌, arith, rules}
+use Rattle.std.specs.Prelude.{◌&&◌, All, AllPairs, filter, find, map, nat_eq}
 use Rattle.std.specs.Map.{lookup}
-use Rattle.std.specs.Option.{option_and_then, option_map, option_map_or}
-use Rattle.std.proofs.lemmas.Bool.{eqb-true}
+use Rattle.std.specs.Option.{option_map, option_map_or}
 use Rattle.std.proofs.lemmas.List.Elements.{All-head, All-tail}
 use Rattle.cell_refs.specs.declared.grid.Cell.{Cell}
-use Rattle.cell_values.specs.declared.errors.ErrorKind.TheVariants as errors
 use Rattle.cell_values.specs.declared.topics.Topic.{Topic}
-use Rattle.cell_values.specs.declared.values.Value.{Value}
-use Rattle.cell_values.specs.declared.values.Value.TheVariants as values
 use Rattle.cell_values.specs.Topic.{same_topic}
-use Rattle.cell_values.proofs.PublicLaws.{same_topics, same_topic-refl}
-use Rattle.std.specs.Str.{bytes_eq}
-use Rattle.rtd_server.specs.Server.{ServerState}
-use Rattle.rtd_topics.specs.Parts.{IsLinked, RtdParts, is_of_round, opening_of, rtd_of, topic_has, with_value}
-use Rattle.rtd_topics.specs.RtdState.{rtd_snapshot}
-use Rattle.rtd_topics.proofs.ServerLists.{equal_names}
+use Rattle.cell_values.proofs.PublicLaws.{same_topics}
+use Rattle.rtd_topics.specs.Parts.{topic_has, with_value}
 use Rattle.rtd_topics.proofs.TableFacts.{all-found, found-passes}
 use Rattle.topic_table.specs.Table.{ConnectedTopic, id_of, topic_at}
 

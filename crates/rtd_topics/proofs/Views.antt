@@ -1,11 +1,11 @@
 -- What a known server holds stays, or changes.
-use Rattle.std.proofs.Common.{◌≡◌, ℕ, Bool, true, false, cond, Option, None, Some, refl, ap, sym, subst, ◌∙◌, rules}
+use Rattle.std.proofs.Common.{◌≡◌, ℕ, Bool, true, false, cond, Option, None, Some, refl, ap, sym, ◌∙◌}
 use Rattle.std.specs.Prelude.{is_some, unwrap_or}
 use Rattle.std.specs.Option.{option_eq}
 use Rattle.std.specs.Cmp.{IsEquivalence}
 use Rattle.std.proofs.lemmas.Cmp.{lists_equiv, nat_list_eq_equiv}
 use Rattle.cell_values.specs.declared.values.Value.{Value}
-use Rattle.known_servers.specs.Server.{IsCurrent, SamePublished, SameView, ServerParts, ServerView, ViewPublishes, has_strings, view_of}
+use Rattle.known_servers.specs.Server.{IsCurrent, SameView, ServerParts, ServerView, ViewPublishes}
 use Rattle.rtd_server.specs.Server.{ServerState}
 use Rattle.rtd_server.specs.Strings.{Strings, same_strings}
 use Rattle.rtd_topics.specs.Parts.{KeepsServer}

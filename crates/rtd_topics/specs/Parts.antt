@@ -1,5 +1,5 @@
 -- For the crate's own functions: the parts that a host's real-time data are kept in.
-use Rattle.std.specs.Prelude.{◌≡◌, ℕ, ◌≤◌, Bool, true, false, not, ◌&&◌, List, [], ◌∷◌, Option, Some, None, is_some, if◌then◌else◌, nat_eq, map, find, filter, unwrap_or, All, AllPairs}
+use Rattle.std.specs.Prelude.{◌≡◌, ℕ, ◌≤◌, Bool, true, false, not, ◌&&◌, List, [], ◌∷◌, Option, Some, None, is_some, if◌then◌else◌, nat_eq, map, find, filter, unwrap_or, All}
 use Rattle.std.specs.Bool.{MatchBool}
 use Rattle.std.specs.List.{AllZip, IsDistinct, list_any}
 use Rattle.std.specs.Map.{lookup}
