@@ -1,2 +1,3 @@
 -- What lines say.
-mod Scripts
+mod Texts
+mod StringLists

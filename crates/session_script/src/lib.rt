@@ -1,11 +1,24 @@
-//! What the lines of a script say.
+//! What the lines of a script say, and the lines of commands.
 #![tactic(auto)]
 
-mod constants;
-mod limits;
-mod script;
-#[cfg(test)]
-mod tests;
+mod arguments;
+mod bad_words;
+mod calls;
+mod cells;
+mod contents;
+mod faults;
 
+mod limits;
+mod parsed;
+mod pushing;
+mod rounds;
+mod script;
+mod servers;
+mod strings;
+mod verbs;
+
+pub use bad_words::bad_word;
+pub use faults::BadLine;
 pub use limits::MAX_LINE;
-pub use script::{BadLine, Parsed, read_line};
+pub use parsed::Parsed;
+pub use script::read_line;
