@@ -48,7 +48,10 @@ fn text_of(line: &[u8]) -> Option<&str>
     ensures text { IfSome result (λ text. text.now ≡ line.now) }
     ensures utf8 { is_some result ≡ is_utf8 line.now }
 {
-    str::from_utf8(line).ok()
+    match str::from_utf8(line) {
+        Ok(text) => Some(text),
+        Err(_) => None,
+    }
 }
 
 /// Whether a control character stands in a line.
