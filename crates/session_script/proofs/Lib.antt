@@ -1,3 +1,4 @@
 -- What lines say.
 mod Texts
 mod StringLists
+mod JoinedStrings

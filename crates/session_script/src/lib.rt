@@ -16,9 +16,11 @@ mod script;
 mod servers;
 mod strings;
 mod verbs;
+mod writing;
 
 pub use bad_words::bad_word;
 pub use faults::BadLine;
 pub use limits::MAX_LINE;
 pub use parsed::Parsed;
 pub use script::read_line;
+pub use writing::write_line;
