@@ -2,3 +2,11 @@
 mod Texts
 mod StringLists
 mod JoinedStrings
+mod Visible
+mod Parts
+mod Cuts
+mod Words
+mod FormulaTexts
+mod Lengths
+mod SaidAgain
+mod LinesAgain

@@ -8,6 +8,7 @@ mod cells;
 mod contents;
 mod faults;
 
+mod laws;
 mod limits;
 mod parsed;
 mod pushing;
@@ -20,6 +21,7 @@ mod writing;
 
 pub use bad_words::bad_word;
 pub use faults::BadLine;
+pub use laws::a_written_line_reads_back;
 pub use limits::MAX_LINE;
 pub use parsed::Parsed;
 pub use script::read_line;
