@@ -10,3 +10,5 @@ mod FormulaTexts
 mod Lengths
 mod SaidAgain
 mod LinesAgain
+mod SaidForms
+mod SaidLines

@@ -21,7 +21,7 @@ mod writing;
 
 pub use bad_words::bad_word;
 pub use faults::BadLine;
-pub use laws::a_written_line_reads_back;
+pub use laws::{a_written_line_reads_back, what_is_read_has_a_line};
 pub use limits::MAX_LINE;
 pub use parsed::Parsed;
 pub use script::read_line;
