@@ -9,6 +9,7 @@ use Rattle.workbook.specs.declared.commands.BeginKind.TheVariants as kinds
 use Rattle.workbook.specs.declared.commands.Command.{Command}
 use Rattle.workbook.specs.declared.commands.Command.TheVariants as commands
 use Rattle.workbook.specs.declared.commands.Form.TheVariants as forms
+use Rattle.workbook.specs.InForm.{IsInForm}
 use Rattle.session_script.specs.declared.faults.BadLine.{BadLine}
 use Rattle.session_script.specs.declared.faults.BadLine.TheVariants as faults
 use Rattle.session_script.specs.declared.limits.TheConstants.{MAX_LINE}
@@ -194,3 +195,9 @@ line_said line =
     else (if not (is_utf8 line) then Err faults.NotUtf8
     else (if list_any is_ascii_control line then Err faults.Control
     else (if length line == 0 then Ok parsed.Empty else words_said line)))
+
+-- what says no command, or one in form
+abbrev pub IsParsedInForm : Parsed → Type 0
+IsParsedInForm parsed.Empty = Unit {0}
+IsParsedInForm (parsed.One command) = IsInForm command
+IsParsedInForm (parsed.Calc kind) = Unit {0}

@@ -7,6 +7,8 @@ use Rattle.cell_refs.specs.Cell.{IsCell}
 use Rattle.cell_refs.specs.Handle.{IsHandle, handle_text}
 use Rattle.cell_refs.specs.Written.{cell_text}
 use Rattle.cell_values.specs.declared.limits.TheConstants.{LARGEST_NUMBER}
+use Rattle.cell_values.specs.declared.values.Value.{Value}
+use Rattle.cell_values.specs.declared.values.Value.TheVariants as values
 use Rattle.cell_values.specs.Error.{error_word}
 use Rattle.cell_values.specs.Name.{is_name}
 use Rattle.cell_values.specs.Text.{is_text}
@@ -117,3 +119,29 @@ HasLine (commands.Return handle value) = IsHandle handle × HasWord value
 HasLine (commands.Print form) = Unit {0}
 HasLine (commands.Listen name) = IsTrue (is_name name)
 HasLine (commands.Events name) = IsTrue (is_name name)
+
+-- a value whose number, where it is one, is within the magnitude
+abbrev pub IsWithinMagnitude : Value → Type 0
+IsWithinMagnitude (values.Num n) = unsigned_abs n ≤ LARGEST_NUMBER
+IsWithinMagnitude (values.Text t) = Unit {0}
+IsWithinMagnitude (values.Bool b) = Unit {0}
+IsWithinMagnitude (values.Error e) = Unit {0}
+IsWithinMagnitude values.Blank = Unit {0}
+
+-- a command whose cells lie in the grid, and whose values are within the magnitude
+abbrev pub IsWithinBounds : Command → Type 0
+IsWithinBounds (commands.Set cell content) = IsCell cell
+IsWithinBounds (commands.Clear cell) = IsCell cell
+IsWithinBounds (commands.Register name registration) = Unit {0}
+IsWithinBounds (commands.Server name) = Unit {0}
+IsWithinBounds (commands.Publish server strings value) = IsWithinMagnitude value
+IsWithinBounds (commands.Notify name) = Unit {0}
+IsWithinBounds (commands.Throttle interval) = Unit {0}
+IsWithinBounds (commands.Pull moment) = Unit {0}
+IsWithinBounds (commands.Begin kind) = Unit {0}
+IsWithinBounds commands.Settle = Unit {0}
+IsWithinBounds commands.Cancel = Unit {0}
+IsWithinBounds (commands.Return handle value) = IsCell handle.cell × IsWithinMagnitude value
+IsWithinBounds (commands.Print form) = Unit {0}
+IsWithinBounds (commands.Listen name) = Unit {0}
+IsWithinBounds (commands.Events name) = Unit {0}

@@ -7,6 +7,7 @@ mod calls;
 mod cells;
 mod contents;
 mod faults;
+mod forms;
 
 mod laws;
 mod limits;
@@ -21,6 +22,7 @@ mod writing;
 
 pub use bad_words::bad_word;
 pub use faults::BadLine;
+pub use forms::a_command_in_form_has_a_line;
 pub use laws::{a_written_line_reads_back, what_is_read_has_a_line};
 pub use limits::MAX_LINE;
 pub use parsed::Parsed;

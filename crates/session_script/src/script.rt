@@ -4,12 +4,13 @@ ghost use Rattle.std.specs.Prelude.{◌≡◌, ◌⊎◌, Err, IfOk, IfErr, IfSo
 ghost use Rattle.std.specs.Char.{is_ascii_control};
 ghost use Rattle.std.specs.List.{list_any};
 ghost use Rattle.std.specs.Str.{is_utf8};
-ghost use Rattle.session_script.specs.Script.{arguments_said, bare_said, line_said, words_said};
+ghost use Rattle.session_script.specs.Script.{IsParsedInForm, arguments_said, bare_said, line_said, words_said};
 
 use super::arguments::{cut, has_space};
 use super::cells::{read_clear, read_set};
 use super::faults::BadLine;
 use super::calls::{read_register, read_return};
+use super::laws::what_is_read_has_a_line;
 use super::limits::MAX_LINE;
 use super::parsed::Parsed;
 use super::rounds::{read_begin, read_calc, read_print};
@@ -22,8 +23,21 @@ use std::str;
 use workbook::{BeginKind, Command, Form};
 
 /// Reads a line without its end.
-#[tactic(auto, unfolding(crate::specs::Script::line_said))]
 pub fn read_line(alloc: Global, line: &[u8]) -> Result<Parsed, BadLine>
+    ensures said { IfOk result (λ said. line_said line.now ≡ Ok said) }
+    ensures fault { IfErr result (λ fault. (fault ≡ BadLine.Memory)
+        ⊎ (line_said line.now ≡ Err fault)) }
+
+    // A command that is read is in form.
+    ensures in_form { IfOk result IsParsedInForm }
+{
+    what_is_read_has_a_line();
+    read_whole(alloc, line)
+}
+
+/// Reads a line.
+#[tactic(auto, unfolding(crate::specs::Script::line_said))]
+fn read_whole(alloc: Global, line: &[u8]) -> Result<Parsed, BadLine>
     ensures said { IfOk result (λ said. line_said line.now ≡ Ok said) }
     ensures fault { IfErr result (λ fault. (fault ≡ BadLine.Memory)
         ⊎ (line_said line.now ≡ Err fault)) }

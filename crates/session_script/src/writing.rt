@@ -1,15 +1,20 @@
 //! Writes the canonical lines of commands. A refusal of one of the functions that push may leave a part of what it
 //! appends there.
 
-ghost use Rattle.std.specs.Prelude.{◌≡◌, ◌++◌, OnOk, OnErr, take, vec_len};
+ghost use Rattle.std.specs.Prelude.{◌≡◌, ◌++◌, Ok, OnOk, OnErr, take, vec_len};
 ghost use Rattle.std.specs.Fmt.{signed_decimal};
 ghost use Rattle.addin_types.specs.TypeText.{type_text};
 ghost use Rattle.cell_refs.specs.Handle.{handle_text};
 ghost use Rattle.cell_refs.specs.Written.{cell_text};
 ghost use Rattle.cell_values.specs.Word.{value_text};
 ghost use Rattle.session_script.specs.declared.verbs.Verb.TheVariants as verbs;
-ghost use Rattle.session_script.specs.Writing.{begin_line, content_text, line_of, moment_text, print_line, spaced, strings_text, verb_line};
+ghost use Rattle.workbook.specs.InForm.{IsInForm};
+ghost use Rattle.session_script.specs.Script.{line_said};
+ghost use Rattle.session_script.specs.Writing.{IsWithinBounds, begin_line, content_text, line_of, moment_text, print_line, spaced, strings_text, verb_line};
 
+use super::forms::a_command_in_form_has_a_line;
+use super::laws::a_written_line_reads_back;
+use super::parsed::Parsed;
 use super::pushing::{
     push, push_cell, push_content, push_handle, push_moment, push_signed, push_strings, push_verb,
 };
@@ -21,6 +26,20 @@ use workbook::{BeginKind, Command, Content, Form, Moment};
 
 /// Appends the canonical line of a command, without its end.
 pub fn write_line(command: &Command, out: &mut Vec<u8>) -> Result<(), Memory>
+    ensures ok { OnOk result (out.new.items ≡ out.old.items ++ line_of command.now) }
+    ensures err { OnErr result (out.new.items ≡ out.old.items) }
+
+    // What is written is read again as the command.
+    ensures again { IsInForm command.now → IsWithinBounds command.now
+        → line_said (line_of command.now) ≡ Ok (Parsed.One command.now) }
+{
+    a_written_line_reads_back();
+    a_command_in_form_has_a_line(command);
+    append_line(command, out)
+}
+
+/// Appends the canonical line of a command.
+fn append_line(command: &Command, out: &mut Vec<u8>) -> Result<(), Memory>
     ensures ok { OnOk result (out.new.items ≡ out.old.items ++ line_of command.now) }
     ensures err { OnErr result (out.new.items ≡ out.old.items) }
 {
