@@ -98,10 +98,11 @@ strings_uncut separator (string ∷ next ∷ strings) rest quote comma =
 
 -- what is cut at the end of its front
 pub cut_again : (separator : ℕ) (w rest : List ℕ) → cut_place separator false (w ++ separator ∷ rest) ≡ length w → (before_cut separator (w ++ separator ∷ rest) ≡ w) × (behind_cut separator (w ++ separator ∷ rest) ≡ rest) × (is_cut separator (w ++ separator ∷ rest) ≡ true)
-cut_again separator w rest at =
-    (taken (cut_place separator false (w ++ separator ∷ rest)) w (separator ∷ rest) at,
-    left (cut_place separator false (w ++ separator ∷ rest)) separator w rest at,
-    (let whole = length-append w (separator ∷ rest) in lt-ltb _ _ (omega (arith, at, whole))))
+cut_again separator w rest at = (
+  taken (cut_place separator false (w ++ separator ∷ rest)) w (separator ∷ rest) at,
+  left (cut_place separator false (w ++ separator ∷ rest)) separator w rest at,
+  (let whole = length-append w (separator ∷ rest) in lt-ltb _ _ (omega (arith, at, whole))),
+)
 
 -- what isn't cut
 pub uncut_again : (separator : ℕ) (w : List ℕ) → cut_place separator false w ≡ length w → (before_cut separator w ≡ w) × (is_cut separator w ≡ false)

@@ -111,6 +111,7 @@ by_digits (c ∷ cs) some all =
   where
     no_equals : (c : ℕ) → 48 ≤ c → c ≤ 57 → (c == 61) ≡ false
     no_equals c low high = grind (arith, nat_tests)
+
     no_apostrophe : (c : ℕ) → 48 ≤ c → (c == 39) ≡ false
     no_apostrophe c low = grind (arith, nat_tests)
 

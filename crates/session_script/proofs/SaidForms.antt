@@ -321,6 +321,7 @@ one_string more string is = record { some = omega arith; few = omega arith; shor
     each_short : All (λ string. length (chars string) ≤ 255) (string ∷ [])
     each_short zero d within = is.short
     each_short (suc k) d within = absurd (omega (arith, within))
+
     each_valid : All (λ string. IsTrue (is_text string)) (string ∷ [])
     each_valid zero d within = is.valid
     each_valid (suc k) d within = absurd (omega (arith, within))
@@ -331,6 +332,7 @@ more_strings more string strings is are = record { some = omega arith; few = ome
     each_short : All (λ string. length (chars string) ≤ 255) (string ∷ strings)
     each_short zero d within = is.short
     each_short (suc k) d within = are.short k d (omega (arith, within))
+
     each_valid : All (λ string. IsTrue (is_text string)) (string ∷ strings)
     each_valid zero d within = is.valid
     each_valid (suc k) d within = are.valid k d (omega (arith, within))

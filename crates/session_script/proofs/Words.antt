@@ -84,9 +84,10 @@ digits_are (c ∷ cs) some all = all_digits (c ∷ cs) all
 form_by_digits : (ds : List ℕ) → 0 < length ds → all_ascii_digits ds ≡ true → (has_number_form ds ≡ true) × (number_of_digits ds ≡ option_map (λ n. pos n) (whole_number ds))
 form_by_digits [] some all = absurd (omega arith)
 form_by_digits (c ∷ cs) some all =
-    let digit = (tells_all_ascii_digits.parts c cs all).0 in
-    (ap (λ b. cond b (are_digits cs) (are_digits (c ∷ cs))) (no_minus c digit.0) ∙ digits_are (c ∷ cs) some all,
-    ap (λ b. cond b (option_map below_zero (whole_number cs)) (option_map (λ n. pos n) (whole_number (c ∷ cs)))) (no_minus c digit.0))
+    let digit = (tells_all_ascii_digits.parts c cs all).0 in (
+      ap (λ b. cond b (are_digits cs) (are_digits (c ∷ cs))) (no_minus c digit.0) ∙ digits_are (c ∷ cs) some all,
+      ap (λ b. cond b (option_map below_zero (whole_number cs)) (option_map (λ n. pos n) (whole_number (c ∷ cs)))) (no_minus c digit.0),
+    )
 
 -- the decimals of a number have the form of that number
 pub number_form_again : (z : ℤ) → unsigned_abs z ≤ 999999999999999 → (has_number_form (signed_decimal z) ≡ true) × (number_of_digits (signed_decimal z) ≡ Some z)
@@ -95,9 +96,10 @@ number_form_again (pos n) small =
     let form = form_by_digits (decimal n) (decimal_nonempty n fits) (digits_decimal numerals n fits) in
     (form.0, form.1 ∙ ap (option_map (λ n. pos n)) (whole_decimal n small))
 number_form_again (negsuc n) small =
-    let fits : suc n < 2 ^ 64 = omega arith in
-    (digits_are (decimal (suc n)) (decimal_nonempty (suc n) fits) (digits_decimal numerals (suc n) fits),
-    ap (option_map below_zero) (whole_decimal (suc n) small))
+    let fits : suc n < 2 ^ 64 = omega arith in (
+      digits_are (decimal (suc n)) (decimal_nonempty (suc n) fits) (digits_decimal numerals (suc n) fits),
+      ap (option_map below_zero) (whole_decimal (suc n) small),
+    )
 
 undoubled_other : (c : ℕ) (xs : List ℕ) → eqb c 34 ≡ false → before_closing_quote (c ∷ xs) ≡ option_map (λ t. c ∷ t) (before_closing_quote xs)
 undoubled_other c [] e = ap (λ b. cond b (Some []) None) e

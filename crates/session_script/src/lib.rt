@@ -8,7 +8,6 @@ mod cells;
 mod contents;
 mod faults;
 mod forms;
-
 mod laws;
 mod limits;
 mod parsed;
@@ -17,6 +16,8 @@ mod rounds;
 mod script;
 mod servers;
 mod strings;
+#[cfg(test)]
+mod tests;
 mod verbs;
 mod writing;
 

@@ -7,9 +7,9 @@ ghost use Rattle.std.specs.Str.{is_utf8};
 ghost use Rattle.session_script.specs.Script.{IsParsedInForm, arguments_said, bare_said, line_said, words_said};
 
 use super::arguments::{cut, has_space};
+use super::calls::{read_register, read_return};
 use super::cells::{read_clear, read_set};
 use super::faults::BadLine;
-use super::calls::{read_register, read_return};
 use super::laws::what_is_read_has_a_line;
 use super::limits::MAX_LINE;
 use super::parsed::Parsed;
