@@ -1,4 +1,4 @@
-//! A look at one cell: its job where it is ready, and the value that comes out.
+//! A look at one cell: its job where it is ready, and what comes out.
 
 ghost use Rattle.std.specs.Prelude.{◌≡◌, [], Ok, true, false, Some, IfOk, OnErr, MatchOption};
 ghost use Rattle.std.specs.List.Sorted.{IsStrictlySortedBy};
@@ -16,7 +16,8 @@ ghost use Rattle.calc_round.specs.Readings.{ReadsFollow};
 ghost use Rattle.calc_round.specs.Rounds.{PresentMeans, is_unfinished, names_unfinished, topic_setting};
 
 use super::places::{place_behind_named, place_behind_unfinished};
-use super::valuing::value_of_job;
+use super::functions::registrations_of;
+use super::valuing::{Answered, answer_of_job};
 use addin_types::AddIns;
 use cell_chain::CellChain;
 use cell_eval::{Inputs, Job, Registrations, Results, Topics};
@@ -28,24 +29,38 @@ use std::alloc::Global;
 use topic_source::TopicSource;
 use workbook::{Book, Content};
 
-/// What a recalculation looks at cells with: its number, the book, and what added functions answer.
+/// What a recalculation looks at cells with: its number, the book, the accepted values, and what added functions answer.
 #[derive(Drop)]
 pub struct Looker<'a, F> {
     pub alloc: Global,
     pub round: u64,
     pub book: &'a Book,
+    pub log: &'a CommandLog,
     pub addins: &'a F,
 }
 
+/// What a look at a cell did.
+#[derive(Clone, Copy)]
+pub enum Looked {
+    /// It has its value.
+    Finished,
+    /// It names an unfinished cell.
+    Waits,
+    /// It asks for a call, which is open now.
+    Asked,
+}
+
 impl<'a, F: AddIns> Looker<'a, F> {
-    /// Gives an unfinished cell its value, where all cells that it names have theirs. Answers whether it did.
+    /// Gives an unfinished cell its value, or opens the call that it asks for, where all cells that it names have their
+    /// values.
     pub fn look<T: TopicSource>(
         &self,
         topics: &mut T,
         chain: &mut CellChain,
         store: &mut CellStore,
+        calls: &mut Handles,
         cell: Cell,
-    ) -> Result<bool, Memory>
+    ) -> Result<Looked, Memory>
         requires means { PresentMeans (topic_setting F.answer (T.state topics.old).snapshot)
             self.now.book.now.contents store.old }
         requires reads { ReadsFollow F.answer (T.state topics.old) self.now.book.now.contents

@@ -1,0 +1,4 @@
+-- Lemmas of this crate.
+mod Accepting
+mod Linking
+mod Walking

@@ -1,0 +1,4 @@
+-- What the product means.
+pub mod Log
+-- What the crate's own functions keep.
+pub mod CellKey
