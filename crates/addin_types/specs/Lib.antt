@@ -1,3 +1,4 @@
 -- What the contracts of this crate cite.
 -- What the product means.
 pub mod Samples
+pub mod TypeText

@@ -132,3 +132,80 @@ fn calls_cross_threads(rt: HostRuntime) -> Result<(), Fail> {
     assert_eq!(rt; child.join(&rt)?, Value::Num(7));
     Ok(())
 }
+
+/// A registration of so many arguments.
+fn registration(kind: Kind, arguments: u16, thread_safe: bool) -> Registration {
+    Registration {
+        kind,
+        arguments,
+        thread_safe,
+    }
+}
+
+#[test]
+fn type_texts_both_ways(rt: HostRuntime) -> Result<(), Fail> {
+    let mut out = Vec::new(rt.alloc());
+    for (text, kind, arguments, thread_safe) in [
+        ("Q", Kind::Plain, 0, false),
+        ("Q$", Kind::Plain, 0, true),
+        ("QQQ", Kind::Plain, 2, false),
+        (">X", Kind::Asynchronous { handle_place: 0 }, 0, false),
+        (">XQ$", Kind::Asynchronous { handle_place: 0 }, 1, true),
+        (">QXQQ", Kind::Asynchronous { handle_place: 1 }, 3, false),
+        (">QQX$", Kind::Asynchronous { handle_place: 2 }, 2, true),
+    ] {
+        let wanted = registration(kind, arguments, thread_safe);
+        assert_eq!(rt; read_type(text), Ok(wanted));
+        out.clear();
+        assert_eq!(rt; write_type(&wanted, &mut out), Ok(()));
+        assert_eq!(rt; out.as_slice(), text.as_bytes());
+    }
+    Ok(())
+}
+
+#[test]
+fn texts_that_are_no_type(rt: HostRuntime) {
+    for (text, fault) in [
+        ("", TypeFault::Empty),
+        ("#", TypeFault::MacroSheet),
+        ("z>#", TypeFault::MacroSheet),
+        ("QX#", TypeFault::MacroSheet),
+        ("X", TypeFault::Letter(0)),
+        ("$", TypeFault::Letter(0)),
+        ("q", TypeFault::Letter(0)),
+        ("\u{e9}Q", TypeFault::Letter(0)),
+        ("Q$Q", TypeFault::Letter(1)),
+        ("Q$$", TypeFault::Letter(1)),
+        ("QQ>", TypeFault::Letter(2)),
+        (">XXB", TypeFault::Letter(3)),
+        ("Q ", TypeFault::Letter(1)),
+        (">XX", TypeFault::TwoHandles),
+        ("QXQX$", TypeFault::TwoHandles),
+        (">", TypeFault::VoidWithoutHandle),
+        (">QQ$", TypeFault::VoidWithoutHandle),
+        ("QX", TypeFault::HandleWithoutVoid),
+        ("QQXQ$", TypeFault::HandleWithoutVoid),
+    ] {
+        assert_eq!(rt; read_type(text), Err(fault), "at {text}");
+    }
+}
+
+#[test]
+fn a_function_has_at_most_255_arguments(rt: HostRuntime) -> Result<(), Fail> {
+    let mut out = Vec::new(rt.alloc());
+    for (arguments, few) in [(255, true), (256, false)] {
+        for kind in [Kind::Plain, Kind::Asynchronous { handle_place: 255 }] {
+            let wanted = registration(kind, arguments, true);
+            out.clear();
+            assert_eq!(rt; write_type(&wanted, &mut out), Ok(()));
+            let found = read_type(str::from_utf8(out.as_slice())?);
+            let answer = if few {
+                Ok(wanted)
+            } else {
+                Err(TypeFault::TooMany)
+            };
+            assert_eq!(rt; found, answer);
+        }
+    }
+    Ok(())
+}

@@ -1,5 +1,5 @@
 -- An accepted value that is put at the end.
-use Rattle.std.proofs.Common.{◌≡◌, ◌≤◌, ◌+◌, ℕ, suc, Bool, true, false, List, [], ◌∷◌, ◌++◌, Option, None, Some, length, refl, sym, ap, subst, ◌∙◌, arith}
+use Rattle.std.proofs.Common.{◌≡◌, ◌≤◌, ◌+◌, ℕ, suc, Bool, true, false, List, [], ◌∷◌, ◌++◌, Some, length, refl, sym, ap, subst, ◌∙◌, arith}
 use Rattle.std.specs.Prelude.{if◌then◌else◌, is_some, option_to_list, unwrap_or}
 use Rattle.std.specs.Map.{lookup}
 use Rattle.cell_refs.specs.Cell.{same_cell}
@@ -9,7 +9,7 @@ use Rattle.cell_values.specs.declared.values.Value.{Value}
 use Rattle.cell_refs.proofs.PublicLaws.{same_cell_is}
 use Rattle.workbook.specs.declared.history.Entry.{Entry}
 use Rattle.command_log.specs.Log.{AreLinked, IsBehindReturn, accepted_entry, head_of, link_at, result_at, results_from}
-use Rattle.command_log.proofs.Linking.{behind_before, length_with, linked_with, results_before, results_in_steps, return_at_end}
+use Rattle.command_log.proofs.Linking.{behind_before, linked_with, results_before, results_in_steps, return_at_end}
 
 module _ (entries : List Entry) (links : List ℕ) (heads heads' : List (Cell × ℕ)) (actor : ℕ) (handle : Handle) (value : Value)
     (old : AreLinked entries links heads)

@@ -1,10 +1,7 @@
 -- The links from an accepted value to the one before it, as entries are put at the end.
-use Rattle.std.proofs.Common.{◌≡◌, ◌≤◌, ◌<◌, ◌+◌, ℕ, zero, suc, Bool, true, false, List, [], ◌∷◌, ◌++◌, Option, None, Some, length, refl, sym, ap, subst, ◌∙◌, arith}
-use Rattle.std.specs.Prelude.{is_some, option_to_list, slice_get, unwrap_or}
-use Rattle.std.specs.Map.{lookup}
-use Rattle.cell_refs.specs.Cell.{same_cell}
+use Rattle.std.proofs.Common.{◌≡◌, ◌≤◌, ◌<◌, ◌+◌, ℕ, zero, suc, true, false, List, [], ◌∷◌, ◌++◌, length, refl, sym, ap, subst, ◌∙◌, arith}
+use Rattle.std.specs.Prelude.{is_some, option_to_list}
 use Rattle.cell_refs.specs.declared.grid.Cell.{Cell}
-use Rattle.cell_values.specs.declared.values.Value.{Value}
 use Rattle.workbook.specs.declared.history.Entry.{Entry}
 use Rattle.command_log.specs.Log.{AreLinked, IsBehindReturn, head_of, link_at, result_at, result_of_command, results_from}
 

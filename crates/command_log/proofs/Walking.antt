@@ -1,11 +1,11 @@
 -- The accepted values of a cell, one after the other along the links.
-use Rattle.std.proofs.Common.{◌≡◌, ◌≤◌, ◌<◌, ℕ, zero, suc, Bool, true, false, List, [], ◌∷◌, ◌++◌, Option, None, Some, refl, sym, ap, subst, ◌∙◌, arith}
+use Rattle.std.proofs.Common.{◌≡◌, ◌≤◌, ◌<◌, ℕ, zero, suc, true, false, List, [], ◌∷◌, ◌++◌, None, Some, refl, sym, ap, ◌∙◌, arith}
 use Rattle.std.specs.Prelude.{◌||◌, is_some, nat_eq, option_to_list}
 use Rattle.std.proofs.lemmas.Bool.{eqb-true, false_from_ne_true}
 use Rattle.std.proofs.lemmas.Option.{none-some}
 use Rattle.cell_values.specs.declared.values.Value.{Value}
 use Rattle.workbook.specs.declared.history.Entry.{Entry}
-use Rattle.command_log.specs.Log.{IsBehindReturn, has_site, link_at, link_before, result_at, result_before, results_from}
+use Rattle.command_log.specs.Log.{IsBehindReturn, has_site, link_at, link_before, result_before, results_from}
 use Rattle.command_log.proofs.Linking.{results_in_steps}
 
 -- the values are the first one and those along its link

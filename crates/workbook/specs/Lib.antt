@@ -4,6 +4,7 @@ pub mod Book
 pub mod Circular
 pub mod Evaluation
 pub mod History
+pub mod InForm
 pub mod Meaning
 pub mod Pulling
 pub mod Reads

@@ -1,5 +1,4 @@
-use Rattle.std.proofs.Common.{◌≡◌, ℕ, ◌++◌, ◌∷◌, [], ap, sym, subst, ◌∙◌}
-use Rattle.std.specs.Prelude.{◌||◌, nat_eq}
+use Rattle.std.proofs.Common.{ℕ, ap, sym, subst, ◌∙◌}
 use Rattle.cell_values.specs.declared.values.Value.{Value}
 use Rattle.command_log.specs.Log.{IsBehindReturn, has_site, results_from}
 use Rattle.command_log.proofs.Walking.{behind_link, first_and_rest, other_site}

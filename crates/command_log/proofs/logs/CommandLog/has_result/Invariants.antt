@@ -1,4 +1,4 @@
-use Rattle.std.proofs.Common.{◌≡◌, ◌++◌, ◌<◌, ℕ}
+use Rattle.std.proofs.Common.{◌≡◌}
 use Rattle.command_log.specs.Log.{AreLinked, IsBehindReturn, has_site, results_from, results_of}
 use Rattle.command_log.proofs.logs.CommandLog.has_result.Given as goal
 

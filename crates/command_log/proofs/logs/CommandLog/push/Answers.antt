@@ -1,4 +1,4 @@
-use Rattle.std.proofs.Common.{◌≡◌, ◌≤◌, ◌+◌, ◌++◌, ◌∷◌, [], ap, sym, subst, ◌∙◌, arith}
+use Rattle.std.proofs.Common.{◌++◌, ◌∷◌, [], ap, sym, subst, ◌∙◌, arith}
 use Rattle.command_log.specs.Log.{AreLinked, head_of, results_from, results_of}
 use Rattle.command_log.proofs.Linking.{behind_before, linked_with, results_before}
 use Rattle.command_log.proofs.logs.CommandLog.push.Goals as goal

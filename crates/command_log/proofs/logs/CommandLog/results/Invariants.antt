@@ -1,4 +1,4 @@
-use Rattle.std.proofs.Common.{◌≡◌, ◌++◌, ◌<◌, ℕ}
+use Rattle.std.proofs.Common.{◌≡◌, ◌++◌}
 use Rattle.command_log.specs.Log.{AreLinked, IsBehindReturn, results_from, results_of}
 use Rattle.command_log.proofs.logs.CommandLog.results.Given as goal
 

@@ -1,0 +1,5 @@
+-- Laws of type texts.
+mod TypeFaults
+mod TypeLetters
+mod TypeTexts
+pub mod PublicLaws
