@@ -7,19 +7,12 @@ ghost use Rattle.workbook.specs.Reads.{answer_knowing, is_listed, topics_read};
 ghost use Rattle.calc_round.specs.Looks.{answer_as};
 ghost use Rattle.calc_round.specs.Noting.{NotesSome, NotesTopics};
 
+use super::answered::Answered;
 use addin_types::AddIns;
 use cell_eval::{Job, Outcome, eval};
-use cell_values::{Memory, Name, Value};
-use functions::Values;
+use cell_values::Memory;
 use std::alloc::Global;
 use topic_source::TopicSource;
-
-/// What a job comes to where each topic has a value: a value, or the first asynchronous call without a result.
-#[derive(Drop)]
-pub enum Answered {
-    Value(Value),
-    Asks { site: u16, name: Name, args: Values },
-}
 
 /// Evaluates a job that knows no topic. Each topic that its formula needs is read for the job's cell, and the formula is
 /// evaluated again.

@@ -1,8 +1,7 @@
 use Rattle.std.proofs.Common.{◌++◌, ◌∷◌, [], refl, sym, ap, ◌∙◌}
 use Rattle.cell_eval.specs.Outcomes.{outcome_answer}
-use Rattle.calc_round.specs.Looks.{answer_value}
 use Rattle.calc_round.proofs.TopicsRead.{fewer-left, notes-kept, read-all, read-more, read-none, read-some, read-value}
-use Rattle.calc_round.proofs.valuing.value_of_job.Goals as goal
+use Rattle.calc_round.proofs.valuing.answer_of_job.Goals as goal
 
 pub topics-init : goal.topics-init
 topics-init g c = read-none g.F.AddIns.answer c.args.job (g.T.TopicSource.state c.args.topics.now) _ refl c.requires
@@ -20,10 +19,10 @@ topics-smaller g c =
     (sym (ap outcome_answer c.in-Topic.is) ∙ c.in_ok-value.ensures)
     (ap (λ topics. record c.topics.job { topics = topics }) c.in_ok-push-in-Topic.ensures)
 
-pub returns-in-Done-clause-value : goal.returns-in-Done-clause-value
-returns-in-Done-clause-value g c =
-    ap answer_value (read-value g.F.AddIns.answer c.args.job (g.T.TopicSource.state c.args.topics.now) (g.T.TopicSource.state c.topics.topics) c.topics.job c.topics.invariant _
-    (sym (ap outcome_answer c.in-Done.is) ∙ c.in_ok-value.ensures) refl)
+pub returns-in-Done-clause-answer : goal.returns-in-Done-clause-answer
+returns-in-Done-clause-answer g c =
+    read-value g.F.AddIns.answer c.args.job (g.T.TopicSource.state c.args.topics.now) (g.T.TopicSource.state c.topics.topics) c.topics.job c.topics.invariant _
+    (sym (ap outcome_answer c.in-Done.is) ∙ c.in_ok-value.ensures) refl
 
 pub returns-in-Done-clause-noted : goal.returns-in-Done-clause-noted
 returns-in-Done-clause-noted g c =
@@ -33,10 +32,10 @@ returns-in-Done-clause-noted g c =
 pub returns-in-Done-clause-some : goal.returns-in-Done-clause-some
 returns-in-Done-clause-some g c = read-some g.F.AddIns.answer c.args.job (g.T.TopicSource.state c.args.topics.now) (g.T.TopicSource.state c.topics.topics) c.topics.job c.topics.invariant
 
-pub returns-in-Call-clause-value : goal.returns-in-Call-clause-value
-returns-in-Call-clause-value g c =
-    ap answer_value (read-value g.F.AddIns.answer c.args.job (g.T.TopicSource.state c.args.topics.now) (g.T.TopicSource.state c.topics.topics) c.topics.job c.topics.invariant _
-    (sym (ap outcome_answer c.in-Call.is) ∙ c.in_ok-value.ensures) refl)
+pub returns-in-Call-clause-answer : goal.returns-in-Call-clause-answer
+returns-in-Call-clause-answer g c =
+    read-value g.F.AddIns.answer c.args.job (g.T.TopicSource.state c.args.topics.now) (g.T.TopicSource.state c.topics.topics) c.topics.job c.topics.invariant _
+    (sym (ap outcome_answer c.in-Call.is) ∙ c.in_ok-value.ensures) refl
 
 pub returns-in-Call-clause-noted : goal.returns-in-Call-clause-noted
 returns-in-Call-clause-noted g c =

@@ -1,7 +1,7 @@
 use Rattle.std.proofs.Common.{◌-◌, length}
 use Rattle.formula_parse.specs.Tree.{calls_of}
 use Rattle.calc_round.proofs.TopicsRead.{HasRead}
-use Rattle.calc_round.proofs.valuing.value_of_job.Given as goal
+use Rattle.calc_round.proofs.valuing.answer_of_job.Given as goal
 
 -- the job knows the first of the topics that its formula reads, and these were noted
 abbrev pub invariant-topics : goal.invariant-topics
