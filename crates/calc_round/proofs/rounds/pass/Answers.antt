@@ -151,3 +151,17 @@ looks-preserved g c =
       stuck = λ unmoved. stuck-next setting book round c.looks.store c.look.new.store waiting c.push_reserved.new.cells.items c.in-Some.cell did.1 pushed
           (c.looks.invariant.stuck unmoved) did.0;
     }
+
+pub returns-in-Err-clause-working : goal.returns-in-Err-clause-working
+returns-in-Err-clause-working g c =
+    let log = c.args.looker.now.log.now in
+    let state = c.args.looker.now.book.now in
+    let book = state.contents in
+    let round = c.args.looker.now.round in
+    let waiting = c.looks.work.waiting.items in
+    let setting = setting_for g.F.AddIns.answer (g.T.TopicSource.state c.args.topics.now).snapshot log state in
+    let first = sym c.in-Some.ensures.first in
+    subst (λ items. IsWorking setting book c.look.new.store c.look.new.chain.entries (items ++ c.look.new.chain.due) c.look.new.calls.calls round) (sym c.push_reserved-in-Err.ensures.items)
+    (subst (λ store. IsWorking setting book store c.look.new.chain.entries ((waiting ++ c.in-Some.cell ∷ []) ++ c.look.new.chain.due) c.look.new.calls.calls round) (sym c.in-Err.ensures.store)
+    (subst (λ (calls : OpenCalls). IsWorking setting book c.looks.store c.look.new.chain.entries ((waiting ++ c.in-Some.cell ∷ []) ++ c.look.new.chain.due) calls.calls round) (sym c.in-Err.ensures.calls)
+    (looked setting book round c.looks.store c.looks.chain c.next.new.self c.look.new.chain waiting c.looks.work.calls.calls c.in-Some.cell c.looks.invariant.working first c.next.ensures.left c.look.ensures.chain)))
