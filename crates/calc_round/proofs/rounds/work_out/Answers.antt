@@ -27,9 +27,6 @@ passes-init g c =
       none = none;
       room = (omega (arith, few, more, room.0, kept), omega (arith, few, more, room.1));
       session = refl;
-      book = refl;
-      log = refl;
-      round = refl;
     }
 
 pub passes-smaller : goal.passes-smaller
@@ -63,9 +60,6 @@ passes-preserved g c =
       none = none;
       room = (omega (arith, few, all, more, room.0, kept), omega (arith, few, all, more, room.1));
       session = c.pass.ensures.session ∙ c.passes.invariant.session;
-      book = refl;
-      log = refl;
-      round = refl;
     }
 
 pub returns-in-Ok-false-clause-done : goal.returns-in-Ok-false-clause-done

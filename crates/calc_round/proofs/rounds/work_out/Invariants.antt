@@ -18,9 +18,6 @@ invariant-passes g l = record {
   none : l.work.waiting.items ≡ [];
   room : HasRoomBeside l.chain.due l.work;
   session : l.work.calls.session ≡ l.fn.work.calls.session;
-  book : l.looker.book.now ≡ l.book;
-  log : l.looker.log.now ≡ l.log;
-  round : l.looker.round ≡ l.round;
 }
 
 abbrev pub decreases-passes : goal.decreases-passes
