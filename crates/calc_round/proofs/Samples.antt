@@ -7,9 +7,11 @@ use Rattle.std.proofs.lemmas.Bool.{and_from, or_left, or_right, true≢false}
 use Rattle.std.proofs.lemmas.Map.Keys.{IsDistinct-push}
 use Rattle.addin_types.specs.Samples.{sample_answer}
 use Rattle.async_handles.specs.declared.open_calls.OpenCall.{OpenCall}
+use Rattle.async_handles.specs.OpenCalls.{call_at, calls_without, handle_of}
 use Rattle.cell_chain.specs.CellOrder.{CellOrder}
 use Rattle.cell_chain.proofs.PublicLaws.{among-append}
 use Rattle.cell_refs.specs.declared.grid.Cell.{Cell}
+use Rattle.cell_refs.specs.declared.handles.Handle.{Handle}
 use Rattle.cell_refs.specs.Cell.{is_among, same_cell}
 use Rattle.cell_refs.proofs.PublicLaws.{same_cell_is, same_cells}
 use Rattle.cell_store.specs.Gathering.{has_no_value}
@@ -30,9 +32,11 @@ use Rattle.calc_round.specs.declared.open_work.OpenWork.{OpenWork}
 use Rattle.calc_round.specs.Accepting.{DifferAtCell, ForgetsReader}
 use Rattle.calc_round.specs.Looks.{setting_for}
 use Rattle.calc_round.specs.Readings.{ReadsFollow}
-use Rattle.calc_round.specs.Rounds.{HasRoom, IsWorking, is_unfinished}
+use Rattle.calc_round.specs.Rounds.{HasRoom, IsWorking, has_call, is_unfinished}
 use Rattle.calc_round.specs.Samples.{IsUnderWay, IsUnevaluated, IsUnread, first_value}
+use Rattle.calc_round.proofs.Accepting.{accepted-reads, accepted-working}
 use Rattle.calc_round.proofs.Chains.{distinct-none}
+use Rattle.calc_round.proofs.OpenCells.{call-home}
 
 -- ---- nothing is entered
 pub unevaluated-none : (store : StoreState) (book : List (Cell × Content)) (chain : CellOrder) → IsInOrder book → book ≡ [] → ((q : Cell) → present_at store q ≡ None) → chain ≡ record { entries = []; due = [] }
@@ -217,3 +221,42 @@ none-forgotten cell = record { noted = λ topic q. never (not (same_cell cell q)
     never : (b : Bool) → false ≡ (b && false)
     never true = refl
     never false = refl
+
+-- so the recalculation goes on
+pub went-on : (book : BookState) (log log' : LogParts) (store : StoreState) (chain : CellOrder) (work work' : OpenWork) (cell : Cell) (site : ℕ) (v : Value) → IsUnderWay book log store chain work no_topics
+    → has_call work.calls.calls cell ≡ true → ((q : Cell) → results_of log' q ≡ cond (same_cell cell q) ((site, v) ∷ results_of log q) (results_of log q))
+    → work'.waiting.items ≡ work.waiting.items ++ cell ∷ [] → work'.calls.calls ≡ calls_without work.calls.calls cell → HasRoom work' → IsUnderWay book log' store chain work' no_topics
+went-on book log log' store chain work work' cell site v under_way called results waiting calls room =
+    let earlier = setting_for sample_answer no_topics.snapshot log book in
+    let later = setting_for sample_answer no_topics.snapshot log' book in
+    let differ = accepted sample_answer no_topics.snapshot log log' book cell site v results in
+    record {
+      working = subst (λ cells. IsWorking later book.contents store chain.entries cells work'.calls.calls 1) (sym waiting)
+          (subst (λ open_calls. IsWorking later book.contents store chain.entries (work.waiting.items ++ cell ∷ []) open_calls 1) (sym calls)
+          (accepted-working earlier later book.contents cell differ store chain.entries work.waiting.items work.calls.calls 1 called under_way.working));
+      reads = accepted-reads earlier later book.contents cell differ store chain.entries work.waiting.items work.calls.calls 1 called under_way.working no_topics no_topics (none-forgotten cell) under_way.reads;
+      idle = under_way.idle;
+      room = room;
+    }
+
+-- ---- the handle of an open call
+handled_cases : (calls : List OpenCall) (q : Cell) (h : Handle) (o : Option OpenCall) → call_at calls q ≡ o → option_map (λ (entry : OpenCall). entry.call.handle) o ≡ Some h
+    → (has_call calls q ≡ true) × (h.cell ≡ q)
+handled_cases calls q h None at is = cc
+handled_cases calls q h (Some entry) at is =
+    let same : entry.call.handle ≡ h = cc in
+    (ap is_some at, ap (λ (x : Handle). x.cell) (sym same) ∙ call-home calls q entry at)
+
+pub handled : (calls : List OpenCall) (q : Cell) (h : Handle) → handle_of calls q ≡ Some h → has_call calls h.cell ≡ true
+handled calls q h is =
+    let both = handled_cases calls q h (call_at calls q) refl is in
+    ap (has_call calls) both.1 ∙ both.0
+
+-- a redeemed handle was live
+pub redeemed-live : {X : Type 0} (live : Bool) (x y : X) (o : Option X) → o ≡ cond live (Some x) None → o ≡ Some y → (live ≡ true) × (y ≡ x)
+redeemed-live true x y o told is =
+    let same : Some y ≡ Some x = sym is ∙ told in
+    (refl, cc)
+redeemed-live false x y o told is =
+    let never : Some y ≡ None = sym is ∙ told in
+    absurd (cc)

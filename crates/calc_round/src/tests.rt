@@ -40,6 +40,7 @@ struct Sheet {
 }
 
 /// What a recalculation comes to: the values of the rows, the open calls, and the order of the chain.
+#[derive(Clone, Copy)]
 struct Wanted<'a> {
     words: Words<'a>,
     calls: Calls<'a>,
@@ -522,7 +523,7 @@ fn accept(
     log: &mut CommandLog,
     work: &mut OpenWork,
     row: u32,
-    n: i64,
+    value: Value,
 ) -> Result<(), Fail>
     requires under_way { IsUnderWay sheet.now.book log.old sheet.now.store sheet.now.chain work.old
         no_topics }
@@ -534,7 +535,7 @@ fn accept(
         return Err(Fail::from("a cell without a call"));
     };
     log.reserve(1)?;
-    log.accept(1, handle, Value::Num(n));
+    log.accept(1, handle, value);
     let Some((cell, _)) = work.calls.redeem(&handle) else {
         return Err(Fail::from("a handle that isn't live"));
     };
@@ -554,7 +555,7 @@ fn assert_goes_on<L: Ledger>(rt: &impl Abort, alloc: Global, blank: Blank) -> Re
     let mut work = begin(alloc, &sheet)?;
     recalculate(alloc, &mut sheet, &log, &mut work, &mut NoTopics, &mut steps)?;
     assert_calls(rt, &work, &[(1, 1, 3)])?;
-    accept(&sheet, &mut log, &mut work, 1, 8)?;
+    accept(&sheet, &mut log, &mut work, 1, Value::Num(8))?;
     assert_calls(rt, &work, &[])?;
     recalculate(alloc, &mut sheet, &log, &mut work, &mut NoTopics, &mut steps)?;
     assert_calls(rt, &work, &[(3, 1, 9)])?;
