@@ -1,7 +1,6 @@
 ghost use Rattle.std.specs.Prelude.{◌≡◌, ◌<◌, [], ◌∷◌, ◌++◌, None, Some, false, if◌then◌else◌, IfOk, OnOk};
 ghost use Rattle.cell_refs.specs.Cell.{is_among};
-ghost use Rattle.command_log.specs.Log.{LogParts};
-ghost use Rattle.topic_source.specs.Source.{SourceState, no_topics};
+ghost use Rattle.topic_source.specs.Source.{no_topics};
 ghost use Rattle.workbook.specs.Book.{content_at, has_formula};
 ghost use Rattle.calc_round.specs.Samples.{IsUnderWay, IsUnevaluated, IsUnread, echo_state, first_value};
 
@@ -197,10 +196,16 @@ fn sheet_of(alloc: Global, texts: Texts<'_>) -> Result<Sheet, Fail>
 }
 
 /// All formula cells are to be looked at.
-fn begin(alloc: Global, sheet: &Sheet) -> Result<OpenWork, Fail>
-    requires { IsUnevaluated sheet.now.book.contents sheet.now.store sheet.now.chain }
-    ensures { IfOk result (λ work. (log : LogParts) (source : SourceState) → IsUnread source
-        → IsUnderWay sheet.now.book log sheet.now.store sheet.now.chain work source) }
+fn begin<T: TopicSource>(
+    alloc: Global,
+    sheet: &Sheet,
+    log: &CommandLog,
+    topics: &T,
+) -> Result<OpenWork, Fail>
+    requires start { IsUnevaluated sheet.now.book.contents sheet.now.store sheet.now.chain }
+    requires unread { IsUnread (T.state topics.now) }
+    ensures { IfOk result (λ work. IsUnderWay sheet.now.book log.now sheet.now.store
+        sheet.now.chain work (T.state topics.now)) }
 {
     let waiting = sheet.chain.list(alloc)?;
     let mut calls = Handles::new(alloc, 7);
@@ -314,7 +319,7 @@ fn assert_recalculates<T: TopicSource, L: Ledger>(
     let mut steps = Steps::<L>::new(blank);
     let log = log_of(alloc, accepted)?;
     let mut sheet = sheet_of(alloc, texts)?;
-    let mut work = begin(alloc, &sheet)?;
+    let mut work = begin(alloc, &sheet, &log, topics)?;
     recalculate(alloc, &mut sheet, &log, &mut work, topics, &mut steps)?;
     assert_sheet(rt, alloc, &sheet, wanted.words, wanted.order)?;
     assert_calls(rt, &work, wanted.calls)?;
@@ -504,7 +509,7 @@ fn assert_repeated<L: Ledger>(rt: &impl Abort, alloc: Global, blank: Blank) -> R
     };
     let texts = &[(1, "=A2"), (2, "=RTD(\"feed\",\"\",\"px\")"), (3, "=2")];
     let mut sheet = sheet_of(alloc, texts)?;
-    let mut work = begin(alloc, &sheet)?;
+    let mut work = begin(alloc, &sheet, &log, &topics)?;
     let refused = recalculate(alloc, &mut sheet, &log, &mut work, &mut topics, &mut steps);
     assert!(*rt; refused.is_err());
     recalculate(alloc, &mut sheet, &log, &mut work, &mut topics, &mut steps)?;
@@ -552,7 +557,7 @@ fn assert_goes_on<L: Ledger>(rt: &impl Abort, alloc: Global, blank: Blank) -> Re
     let mut steps = Steps::<L>::new(blank);
     let mut log = CommandLog::open(alloc, 1)?;
     let mut sheet = sheet_of(alloc, &[(1, "=SLOW(3)"), (2, "=A1+1"), (3, "=SLOW(A2)")])?;
-    let mut work = begin(alloc, &sheet)?;
+    let mut work = begin(alloc, &sheet, &log, &NoTopics)?;
     recalculate(alloc, &mut sheet, &log, &mut work, &mut NoTopics, &mut steps)?;
     assert_calls(rt, &work, &[(1, 1, 3)])?;
     accept(&sheet, &mut log, &mut work, 1, Value::Num(8))?;
@@ -568,7 +573,30 @@ fn a_recalculation_goes_on_where_a_value_is_accepted(rt: HostRuntime) -> Result<
     assert_goes_on::<Brand>(&rt, rt.alloc(), Blank::new(1))
 }
 
-/// Recalculates a chain of cells of which each names the next.
+/// A sheet of 200 cells of which each names the next.
+fn backward_sheet(alloc: Global) -> Result<Sheet, Fail>
+    ensures { IfOk result (λ sheet. IsUnevaluated sheet.book.contents sheet.store sheet.chain) }
+{
+    let mut sheet = empty_sheet(alloc)?;
+    for row in 1..200 {
+        let text = format!(in alloc; "=A{}", row + 1)?;
+        enter(alloc, &mut sheet, row, text.as_str())?;
+    }
+    enter(alloc, &mut sheet, 200, "=7")?;
+    Ok(sheet)
+}
+
+/// Asserts that they have the value of the last, and stand in the chain the last first.
+fn assert_forward(rt: &impl Abort, alloc: Global, sheet: &Sheet) -> Result<(), Fail> {
+    let listed = sheet.chain.list(alloc)?;
+    for (found, row) in listed.iter().zip(1..=200) {
+        assert_eq!(*rt; *found, cell(201_u32.saturating_sub(row)));
+        assert_eq!(*rt; sheet.store.present(*found), Some(Some(&Value::Num(7))));
+    }
+    Ok(())
+}
+
+/// Recalculates them.
 fn assert_chain<L: Ledger>(rt: &impl Abort, alloc: Global, blank: Blank) -> Result<(), Fail>
     requires name { blank.name ≡ L.name }
     requires parts { blank.parts ≡ L.parts }
@@ -576,13 +604,8 @@ fn assert_chain<L: Ledger>(rt: &impl Abort, alloc: Global, blank: Blank) -> Resu
 {
     let mut steps = Steps::<L>::new(blank);
     let log = log_of(alloc, None)?;
-    let mut sheet = empty_sheet(alloc)?;
-    for row in 1..200 {
-        let text = format!(in alloc; "=A{}", row + 1)?;
-        enter(alloc, &mut sheet, row, text.as_str())?;
-    }
-    enter(alloc, &mut sheet, 200, "=7")?;
-    let mut work = begin(alloc, &sheet)?;
+    let mut sheet = backward_sheet(alloc)?;
+    let mut work = begin(alloc, &sheet, &log, &NoTopics)?;
     recalculate(
         alloc,
         &mut sheet,
@@ -591,12 +614,7 @@ fn assert_chain<L: Ledger>(rt: &impl Abort, alloc: Global, blank: Blank) -> Resu
         &mut NoTopics,
         &mut steps,
     )?;
-    let listed = sheet.chain.list(alloc)?;
-    for (found, row) in listed.iter().zip(1..=200) {
-        assert_eq!(*rt; *found, cell(201_u32.saturating_sub(row)));
-        assert_eq!(*rt; sheet.store.present(*found), Some(Some(&Value::Num(7))));
-    }
-    Ok(())
+    assert_forward(rt, alloc, &sheet)
 }
 
 #[test]
