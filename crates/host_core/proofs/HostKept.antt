@@ -37,7 +37,7 @@ use Rattle.workbook.proofs.PublicLaws.{or_false}
 use Rattle.calc_book.specs.CalcState.{CalcState, calc_begin, calc_note, calc_settle, first_calc}
 use Rattle.calc_book.specs.declared.calc_books.CalcBook.{CalcBook}
 use Rattle.calc_book.specs.Keeping.{Answers, AtRest, Holds, InRound, IsAlikeNow, NotesCleanReaders, NotesReaders, ReadsInRound, is_forgotten}
-use Rattle.host_core.specs.Form.{IsIntervalInForm, IsMomentInForm}
+use Rattle.workbook.specs.InForm.{IsIntervalInForm, IsMomentInForm}
 use Rattle.host_core.specs.HostKeeping.{Keeps, Recalculates, calc_of, listeners_as}
 use Rattle.host_core.specs.HostParts.{HostParts, first_parts, StandsFor, TopicsHold, is_known, round_setting, shown_setting, values_at}
 use Rattle.rtd_topics.specs.RtdState.{IsMoment, IsRtdState, RtdState, SameOpening, SameReaders, SameTopics, TakesRead, is_changed, reads_one, rtd_snapshot, source_of, standing_of, topics_changed, with_value_pulled}

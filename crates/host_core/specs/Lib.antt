@@ -1,6 +1,5 @@
 -- What the product means.
 pub mod HostState
-pub mod Form
 -- What the crate's own functions keep.
 pub mod HostParts
 pub mod HostKeeping

@@ -1,6 +1,6 @@
 -- For the crate's tests: commands that a desk takes, in form.
 use Rattle.workbook.specs.declared.commands.Command.{Command}
-use Rattle.host_core.specs.Form.{IsInForm}
+use Rattle.workbook.specs.InForm.{IsInForm}
 use Rattle.host_core.specs.HostState.{IsDeskCommand}
 
 -- a command that a desk takes, in form

@@ -25,7 +25,7 @@ impl<M: Maker + Drop, F: AddIns + Drop> Model for PlainDesk<M, F> {
 }
 
 impl<M: Maker + Drop, F: AddIns + Drop> PlainDesk<M, F> {
-    ghost use Rattle.host_core.specs.Form.{IsInForm};
+    ghost use Rattle.workbook.specs.InForm.{IsInForm};
     ghost use Rattle.host_core.specs.HostState.{IsActFault, IsDeskCommand, state_now, terms_of, with_entry};
     ghost use Rattle.workbook.specs.Step.{reply_to};
 

@@ -56,7 +56,7 @@ impl<M: Maker + Drop, F: AddIns + Drop> Host<M, F> {
     ghost use Rattle.std.specs.Prelude.{None, IfOk, OnOk, IfErr, IsTrue, length};
     ghost use Rattle.cell_refs.specs.declared.grid.Cell.{Cell as OneCell};
     ghost use Rattle.cell_refs.specs.Cell.{is_among};
-    ghost use Rattle.host_core.specs.Form.{IsInForm};
+    ghost use Rattle.workbook.specs.InForm.{IsInForm};
     ghost use Rattle.host_core.specs.HostState.{IsActFault, IsDeskCommand, IsTaken, state_now, terms_of, with_entry};
     ghost use Rattle.workbook.specs.declared.commands.Command.TheVariants as commands;
     ghost use Rattle.workbook.specs.Book.{is_formula};

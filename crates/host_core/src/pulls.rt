@@ -2,7 +2,7 @@
 
 ghost use Rattle.std.specs.Prelude.{◌≡◌, true, false, IfOk, OnErr};
 ghost use Rattle.calc_book.specs.Keeping.{Answers};
-ghost use Rattle.host_core.specs.Form.{IsMomentInForm};
+ghost use Rattle.workbook.specs.InForm.{IsMomentInForm};
 ghost use Rattle.host_core.specs.Standing.{IsStep, KeepsNumbers, KeepsStates, StandsForSome};
 ghost use Rattle.rtd_topics.specs.Parts.{rtd_of};
 ghost use Rattle.workbook.specs.Pulling.{Now, is_flagged, pull_due};

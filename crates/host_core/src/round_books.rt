@@ -1,6 +1,6 @@
 ghost use Rattle.std.specs.Prelude.{◌≡◌, ◌<◌, ◌+◌, ◌^◌, IfOk, OnOk, OnErr};
 ghost use Rattle.calc_book.specs.Keeping.{Answers};
-ghost use Rattle.host_core.specs.Form.{IsInForm};
+ghost use Rattle.workbook.specs.InForm.{IsInForm};
 ghost use Rattle.host_core.specs.HostState.{IsDeskCommand};
 ghost use Rattle.host_core.specs.Standing.{IsStep, KeepsNumbers, KeepsStates, MovesNumbers, Stands};
 ghost use Rattle.workbook.specs.State.{State, first_state};

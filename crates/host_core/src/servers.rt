@@ -2,7 +2,7 @@
 
 ghost use Rattle.std.specs.Prelude.{◌≡◌, ◌<◌, false, IfOk, OnErr};
 ghost use Rattle.calc_book.specs.Keeping.{Answers};
-ghost use Rattle.host_core.specs.Form.{IsIntervalInForm};
+ghost use Rattle.workbook.specs.InForm.{IsIntervalInForm};
 ghost use Rattle.host_core.specs.Standing.{IsStep, KeepsNumbers, KeepsStates, StandsForSome};
 ghost use Rattle.rtd_topics.specs.Parts.{rtd_of};
 ghost use Rattle.rtd_topics.specs.RtdState.{names_known};

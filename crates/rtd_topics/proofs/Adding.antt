@@ -1,6 +1,6 @@
 -- A server comes.
-use Rattle.std.proofs.Common.{◌≡◌, ℕ, Bool, true, false, cond, ◌||◌, List, [], ◌∷◌, ◌++◌, ◌⊎◌, inl, inr, Option, None, Some, refl, ap, sym, subst, ◌∙◌, rules}
-use Rattle.std.specs.Prelude.{is_some, map, unwrap_or}
+use Rattle.std.proofs.Common.{◌≡◌, ℕ, Bool, true, false, cond, List, [], ◌∷◌, ◌++◌, ◌⊎◌, inl, inr, Option, None, Some, refl, ap, sym, subst, ◌∙◌}
+use Rattle.std.specs.Prelude.{is_some, unwrap_or}
 use Rattle.std.specs.List.{IsDistinct, list_any}
 use Rattle.std.specs.Option.{option_and_then, option_or}
 use Rattle.std.specs.Str.{bytes_eq}
@@ -15,7 +15,7 @@ use Rattle.known_servers.specs.Server.{IsNewView, ServerParts, has_name, view_of
 use Rattle.rtd_server.specs.Server.{ServerState}
 use Rattle.rtd_topics.specs.Parts.{IsLinked, names_of, opening_of, published_of, server_named, strings_for}
 use Rattle.rtd_topics.specs.RtdState.{SameOpening}
-use Rattle.rtd_topics.proofs.ServerLists.{equal_names, found-named, itself}
+use Rattle.rtd_topics.proofs.ServerLists.{equal_names}
 use Rattle.topic_table.specs.Table.{ConnectedTopic, TableState, topic_at}
 
 -- a server of a name, after one came
@@ -49,6 +49,7 @@ unserved {S} ks topics name id none served = at (topic_at topics id) refl
     named : (t : ConnectedTopic) → is_some (server_named ks t.topic.server) ≡ true → (b : Bool) → bytes_eq name t.topic.server ≡ b → cond b (Some t.topic.strings) None ≡ None
     named t found true here = absurd (cc (sym found ∙ ap (λ m. is_some (server_named ks m)) (sym (equal_names name t.topic.server here)) ∙ ap is_some none))
     named t found false other = refl
+
     at : (o : Option ConnectedTopic) → topic_at topics id ≡ o → option_and_then (λ (t : ConnectedTopic). cond (bytes_eq name t.topic.server) (Some t.topic.strings) None) o ≡ None
     at None is = refl
     at (Some t) is = named t (served t is) (bytes_eq name t.topic.server) refl
@@ -88,19 +89,19 @@ pub linked-added : {S : Type 0} (state : S → ServerState) (ks : List (ServerPa
 linked-added {S} state ks k table round run new unknown linked = record {
   once = subst (IsDistinct bytes_eq) (sym (names-added ks k)) (IsDistinct-push nat_list_eq_equiv (names_of ks) k.name linked.once unknown);
   connected = λ name k' e id. elim (added-which ks k k' name e) [
-    inl old ↦ linked.connected name k' old id
+    | inl old ↦ linked.connected name k' old id
     | inr came ↦ ap (λ (x : ServerParts S). (view_of state x).connected id) (sym came.1.1) ∙ new.2 id ∙ sym (unserved ks table.topics name id came.0 (λ t at. linked.served id t at))
   ];
   served = λ id t at. ap is_some (added-at ks k t.topic.server ∙ added-found (server_named ks t.topic.server) (cond (bytes_eq t.topic.server k.name) (Some k) None) (linked.served id t at)) ∙ linked.served id t at;
   current = λ id t k' at e. elim (added-which ks k k' t.topic.server e) [
-    inl old ↦ linked.current id t k' at old
+    | inl old ↦ linked.current id t k' at old
     | inr came ↦ absurd (cc (sym (linked.served id t at) ∙ ap is_some came.0))
   ];
   rounds = linked.rounds;
   unread = linked.unread;
   opened = λ id t at of. linked.opened id t at of ∙ ap (λ (o : Option Value). unwrap_or o (values.Error errors.Na)) (sym (opening-added state ks k new t.topic));
   pended = λ name k' id e some. elim (added-which ks k k' name e) [
-    inl old ↦ linked.pended name k' id old some
+    | inl old ↦ linked.pended name k' id old some
     | inr came ↦ absurd (cc (sym some ∙ ap (λ (x : ServerParts S). is_some ((view_of state x).pending id)) (sym came.1.1) ∙ ap is_some (new.3 id)))
   ];
   rest = linked.rest;

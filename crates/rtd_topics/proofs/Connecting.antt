@@ -1,7 +1,6 @@
 -- A topic is connected.
-use Rattle.std.proofs.Common.{◌≡◌, ◌<◌, ◌≤◌, ◌+◌, ℕ, Bool, true, false, cond, ◌||◌, List, [], ◌∷◌, ◌++◌, ◌⊎◌, inl, inr, Option, None, Some, refl, ap, sym, subst, ◌∙◌, append-nil, arith, rules}
-use Rattle.std.specs.Prelude.{◌&&◌, All, IsOk, OnOk, Result, Ok, Err, filter, find, is_some, map, nat_eq, not, unwrap_or}
-use Rattle.std.specs.Bool.{MatchBool}
+use Rattle.std.proofs.Common.{◌≡◌, ◌≤◌, ◌+◌, ℕ, Bool, true, false, cond, ◌||◌, List, [], ◌∷◌, ◌++◌, ◌⊎◌, inl, inr, Option, None, Some, refl, ap, sym, subst, ◌∙◌, append-nil, arith, rules}
+use Rattle.std.specs.Prelude.{◌&&◌, All, IsOk, OnOk, Result, Ok, Err, filter, find, is_some, nat_eq, not, unwrap_or}
 use Rattle.std.specs.List.{list_any}
 use Rattle.std.specs.Map.{lookup}
 use Rattle.std.specs.Option.{option_and_then, option_map, option_map_or, option_or}
@@ -17,19 +16,16 @@ use Rattle.cell_values.specs.declared.topics.Topic.{Topic}
 use Rattle.cell_values.specs.declared.values.Value.{Value}
 use Rattle.cell_values.specs.declared.values.Value.TheVariants as values
 use Rattle.cell_values.specs.Topic.{same_topic}
-use Rattle.cell_values.proofs.PublicLaws.{same_topics}
 use Rattle.known_servers.specs.Server.{IsCurrent, SameView, ServerParts, ViewConnects, view_of}
 use Rattle.rtd_server.specs.Server.{ServerState}
 use Rattle.rtd_server.specs.Strings.{Strings}
-use Rattle.rtd_topics.specs.Parts.{ConnectsAt, ConnectsServer, IsLinked, RtdParts, is_of_round, known_of, names_of, opening_of, rtd_of, server_named, strings_for, topic_has, with_value}
-use Rattle.rtd_topics.specs.RtdState.{knows_topic, rtd_snapshot, source_of}
+use Rattle.rtd_topics.specs.Parts.{ConnectsAt, ConnectsServer, IsLinked, is_of_round, names_of, opening_of, server_named, strings_for, topic_has}
 use Rattle.rtd_topics.proofs.Adding.{added-cases}
 use Rattle.rtd_topics.proofs.Linking.{once-kept, opening-kept}
 use Rattle.rtd_topics.proofs.Publishing.{match-cases}
-use Rattle.rtd_topics.proofs.ServerLists.{both-found, both-new, equal_names, itself}
+use Rattle.rtd_topics.proofs.ServerLists.{both-found, both-new, itself}
 use Rattle.rtd_topics.proofs.TableFacts.{all-found, found-passes, turned}
 use Rattle.rtd_topics.proofs.Views.{current-kept}
-use Rattle.topic_source.specs.Source.{KeepsValues}
 use Rattle.topic_table.specs.Table.{ConnectedTopic, KeepsReaders, Readings, TableState, has_read, has_reader, id_of, topic_at}
 
 -- what holds of an Ok holds where it is one
@@ -64,6 +60,7 @@ last-there topics t id is = ap is_some (find-append (λ (x : ConnectedTopic). na
   where
     same : nat_eq id t.id ≡ true
     same = ap (nat_eq id) (sym is) ∙ search (rules)
+
     step : (o : Option ConnectedTopic) → is_some (option_or o (cond (nat_eq id t.id) (Some t) None)) ≡ true
     step None = ap (λ b. is_some (cond b (Some t) None)) same
     step (Some x) = refl
@@ -78,7 +75,7 @@ strings-came : (topics : List ConnectedTopic) (t : ConnectedTopic) (name : List 
     → (b : Bool) → nat_eq t.id q ≡ b → strings_for (topics ++ t ∷ []) name q ≡ cond b (cond (bytes_eq name t.topic.server) (Some t.topic.strings) None) (strings_for topics name q)
 strings-came topics t name q absent b is =
     ap (option_and_then (λ (x : ConnectedTopic). cond (bytes_eq name x.topic.server) (Some x.topic.strings) None))
-      (find-append (λ (y : ConnectedTopic). nat_eq q y.id) topics (t ∷ []) ∙ ap (λ c. option_or (topic_at topics q) (cond c (Some t) None)) (turned q t.id ∙ is))
+    (find-append (λ (y : ConnectedTopic). nat_eq q y.id) topics (t ∷ []) ∙ ap (λ c. option_or (topic_at topics q) (cond c (Some t) None)) (turned q t.id ∙ is))
     ∙ step b is (topic_at topics q) refl
   where
     step : (b : Bool) → nat_eq t.id q ≡ b → (o : Option ConnectedTopic) → topic_at topics q ≡ o
@@ -102,7 +99,14 @@ pub opening-connects : {S : Type 0} (state : S → ServerState) (n : List ℕ) (
     → ConnectsServer state n id strings value m k k' → (s : Strings) → (view_of state k').opening s ≡ (view_of state k).opening s
 opening-connects state n id strings value m k k' r s =
     match-cases (bytes_eq n m) (ViewConnects (view_of state k) (view_of state k') id strings × IsCurrent (view_of state k') id strings value) (SameView (view_of state k) (view_of state k'))
-      ((view_of state k').opening s ≡ (view_of state k).opening s) r.1 (λ here out. out.0.0.1 s) (λ other same. same.0.1 s)
+    ((view_of state k').opening s ≡ (view_of state k).opening s) r.1 (λ here out. out.0.0.1 s) (λ other same. same.0.1 s)
+
+-- what is published stays
+pub published-connects : {S : Type 0} (state : S → ServerState) (n : List ℕ) (id : ℕ) (strings : Strings) (value : Value) (m : List ℕ) (k k' : ServerParts S)
+    → ConnectsServer state n id strings value m k k' → (s : Strings) → (view_of state k').published s ≡ (view_of state k).published s
+published-connects state n id strings value m k k' r s =
+    match-cases (bytes_eq n m) (ViewConnects (view_of state k) (view_of state k') id strings × IsCurrent (view_of state k') id strings value) (SameView (view_of state k) (view_of state k'))
+    ((view_of state k').published s ≡ (view_of state k).published s) r.1 (λ here out. out.0.0.0 s) (λ other same. same.0.0 s)
 
 -- an id is connected that is the new one, or was
 pended_step : {X : Type 0} (b : Bool) (x : X) (c : Option X) → (b ≡ false → is_some c ≡ true) → is_some (cond b (Some x) c) ≡ true
@@ -121,68 +125,58 @@ linked-connected {S} state ks ks' table table' round t absent connects came read
     let V : ServerParts S → ServerParts S → Type 0 = λ k k'. ViewConnects (view_of state k) (view_of state k') t.id t.topic.strings × IsCurrent (view_of state k') t.id t.topic.strings t.value in
     let W : ServerParts S → ServerParts S → Type 0 = λ k k'. SameView (view_of state k) (view_of state k') in
     let which : (q : ℕ) (x : ConnectedTopic) → topic_at table'.topics q ≡ Some x → (topic_at table.topics q ≡ Some x) ⊎ ((topic_at table.topics q ≡ None) × ((nat_eq q t.id ≡ true) × (t ≡ x))) =
-      λ q x at. came-which table.topics t x q (ap (λ ts. topic_at ts q) (sym came) ∙ at) in
+    λ q x at. came-which table.topics t x q (ap (λ ts. topic_at ts q) (sym came) ∙ at) in
     let opening : (topic : Topic) → opening_of state ks' topic ≡ opening_of state ks topic = opening-kept state R ks ks' connects.each (opening-connects state n t.id t.topic.strings t.value) in
     record {
       once = once-kept (names_of ks) (names_of ks') connects.each.names linked.once;
       connected = λ name k' e' q.
-        let old = both-new (R name) (server_named ks name) (server_named ks' name) k' (connects.each.each name) e' in
-        let put : (view_of state k').connected q ≡ cond (bytes_eq n name) (cond (nat_eq t.id q) (Some t.topic.strings) ((view_of state old.0).connected q)) ((view_of state old.0).connected q) =
+          let old = both-new (R name) (server_named ks name) (server_named ks' name) k' (connects.each.each name) e' in
+          let put : (view_of state k').connected q ≡ cond (bytes_eq n name) (cond (nat_eq t.id q) (Some t.topic.strings) ((view_of state old.0).connected q)) ((view_of state old.0).connected q) =
           match-cases (bytes_eq n name) (V old.0 k') (W old.0 k')
-            ((view_of state k').connected q ≡ cond (bytes_eq n name) (cond (nat_eq t.id q) (Some t.topic.strings) ((view_of state old.0).connected q)) ((view_of state old.0).connected q)) old.1.1.1
-            (λ here out. out.0.1 q ∙ ap (λ b. cond b (cond (nat_eq t.id q) (Some t.topic.strings) ((view_of state old.0).connected q)) ((view_of state old.0).connected q)) (sym here))
-            (λ other same. same.1 q ∙ ap (λ b. cond b (cond (nat_eq t.id q) (Some t.topic.strings) ((view_of state old.0).connected q)) ((view_of state old.0).connected q)) (sym other)) in
-        connects-strings (nat_eq t.id q) (bytes_eq n name) ((view_of state old.0).connected q) ((view_of state k').connected q) (strings_for table.topics name q) (strings_for table'.topics name q)
+          ((view_of state k').connected q ≡ cond (bytes_eq n name) (cond (nat_eq t.id q) (Some t.topic.strings) ((view_of state old.0).connected q)) ((view_of state old.0).connected q)) old.1.1.1
+          (λ here out. out.0.1 q ∙ ap (λ b. cond b (cond (nat_eq t.id q) (Some t.topic.strings) ((view_of state old.0).connected q)) ((view_of state old.0).connected q)) (sym here))
+          (λ other same. same.1 q ∙ ap (λ b. cond b (cond (nat_eq t.id q) (Some t.topic.strings) ((view_of state old.0).connected q)) ((view_of state old.0).connected q)) (sym other)) in
+          connects-strings (nat_eq t.id q) (bytes_eq n name) ((view_of state old.0).connected q) ((view_of state k').connected q) (strings_for table.topics name q) (strings_for table'.topics name q)
           t.topic.strings (bytes_eq name n) (linked.connected name old.0 old.1.0 q) (names-turned name n) put
           (ap (λ ts. strings_for ts name q) came ∙ strings-came table.topics t name q absent (nat_eq t.id q) refl)
           (λ here. ap (option_and_then (λ (x : ConnectedTopic). cond (bytes_eq name x.topic.server) (Some x.topic.strings) None)) (ap (topic_at table.topics) (sym (eqb-true t.id q here)) ∙ absent));
       served = λ q x at. both-found (R x.topic.server) (server_named ks x.topic.server) (server_named ks' x.topic.server) (connects.each.each x.topic.server)
-        ∙ elim (which q x at) [ inl old ↦ linked.served q x old | inr new ↦ ap (λ (y : ConnectedTopic). is_some (server_named ks y.topic.server)) (sym new.1.1) ∙ known ];
+          ∙ elim (which q x at) [ inl old ↦ linked.served q x old | inr new ↦ ap (λ (y : ConnectedTopic). is_some (server_named ks y.topic.server)) (sym new.1.1) ∙ known ];
       current = λ q x k' at e'.
-        let old = both-new (R x.topic.server) (server_named ks x.topic.server) (server_named ks' x.topic.server) k' (connects.each.each x.topic.server) e' in
-        elim (which q x at) [
-          inl there ↦
-            let other : nat_eq t.id q ≡ false = not-so (nat_eq t.id q) (is_some (topic_at table.topics t.id)) (λ here. ap (λ i. is_some (topic_at table.topics i)) (eqb-true t.id q here) ∙ ap is_some there) (ap is_some absent) in
-            match-cases (bytes_eq n x.topic.server) (V old.0 k') (W old.0 k') (IsCurrent (view_of state k') q x.topic.strings x.value) old.1.1.1
-              (λ here out. current-kept (view_of state old.0) (view_of state k') q x.topic.strings x.value (out.0.0.0 x.topic.strings) (out.0.2 q other) (linked.current q x old.0 there old.1.0))
-              (λ apart same. current-kept (view_of state old.0) (view_of state k') q x.topic.strings x.value (same.0.0 x.topic.strings) (same.2 q) (linked.current q x old.0 there old.1.0))
-          | inr new ↦
-            match-cases (bytes_eq n x.topic.server) (V old.0 k') (W old.0 k') (IsCurrent (view_of state k') q x.topic.strings x.value) old.1.1.1
-              (λ here out. subst (λ (y : ConnectedTopic). IsCurrent (view_of state k') q y.topic.strings y.value) new.1.1
+          let old = both-new (R x.topic.server) (server_named ks x.topic.server) (server_named ks' x.topic.server) k' (connects.each.each x.topic.server) e' in
+          elim (which q x at) [
+            | inl there ↦
+                let other : nat_eq t.id q ≡ false = not-so (nat_eq t.id q) (is_some (topic_at table.topics t.id)) (λ here. ap (λ i. is_some (topic_at table.topics i)) (eqb-true t.id q here) ∙ ap is_some there) (ap is_some absent) in
+                match-cases (bytes_eq n x.topic.server) (V old.0 k') (W old.0 k') (IsCurrent (view_of state k') q x.topic.strings x.value) old.1.1.1
+                (λ here out. current-kept (view_of state old.0) (view_of state k') q x.topic.strings x.value (out.0.0.0 x.topic.strings) (out.0.2 q other) (linked.current q x old.0 there old.1.0))
+                (λ apart same. current-kept (view_of state old.0) (view_of state k') q x.topic.strings x.value (same.0.0 x.topic.strings) (same.2 q) (linked.current q x old.0 there old.1.0))
+            | inr new ↦
+                match-cases (bytes_eq n x.topic.server) (V old.0 k') (W old.0 k') (IsCurrent (view_of state k') q x.topic.strings x.value) old.1.1.1
+                (λ here out. subst (λ (y : ConnectedTopic). IsCurrent (view_of state k') q y.topic.strings y.value) new.1.1
                 (subst (λ (i : ℕ). IsCurrent (view_of state k') i t.topic.strings t.value) (sym (eqb-true q t.id new.1.0)) out.1))
-              (λ apart same. absurd (cc (sym apart ∙ ap (λ (y : ConnectedTopic). bytes_eq n y.topic.server) (sym new.1.1) ∙ itself n)))
-        ];
+                (λ apart same. absurd (cc (sym apart ∙ ap (λ (y : ConnectedTopic). bytes_eq n y.topic.server) (sym new.1.1) ∙ itself n)))
+          ];
       rounds = All-same (λ (x : ConnectedTopic). x.round ≤ round) table'.topics (table.topics ++ t ∷ []) came (All-push (λ (x : ConnectedTopic). x.round ≤ round) table.topics t linked.rounds (omega (arith, at-round)));
       unread = λ q x cell at of. readers q cell ∙ elim (which q x at) [
-        inl old ↦ linked.unread q x cell old of
-        | inr new ↦ ap (λ i. has_reader table i cell) (eqb-true q t.id new.1.0) ∙ unread cell ];
+        | inl old ↦ linked.unread q x cell old of
+        | inr new ↦ ap (λ i. has_reader table i cell) (eqb-true q t.id new.1.0) ∙ unread cell
+      ];
       opened = λ q x at of. elim (which q x at) [
-        inl old ↦ linked.opened q x old of ∙ ap (λ (o : Option Value). unwrap_or o (values.Error errors.Na)) (sym (opening x.topic))
+        | inl old ↦ linked.opened q x old of ∙ ap (λ (o : Option Value). unwrap_or o (values.Error errors.Na)) (sym (opening x.topic))
         | inr new ↦ subst (λ (y : ConnectedTopic). y.value ≡ unwrap_or (opening_of state ks' y.topic) (values.Error errors.Na)) new.1.1
-          (value ∙ ap (λ (o : Option Value). unwrap_or o (values.Error errors.Na)) (sym (opening t.topic))) ];
+            (value ∙ ap (λ (o : Option Value). unwrap_or o (values.Error errors.Na)) (sym (opening t.topic)))
+      ];
       pended = λ name k' q e' some.
-        let old = both-new (R name) (server_named ks name) (server_named ks' name) k' (connects.each.each name) e' in
-        match-cases (bytes_eq n name) (V old.0 k') (W old.0 k') (is_some ((view_of state k').connected q) ≡ true) old.1.1.1
+          let old = both-new (R name) (server_named ks name) (server_named ks' name) k' (connects.each.each name) e' in
+          match-cases (bytes_eq n name) (V old.0 k') (W old.0 k') (is_some ((view_of state k').connected q) ≡ true) old.1.1.1
           (λ here out. ap is_some (out.0.1 q) ∙ pended_step (nat_eq t.id q) t.topic.strings ((view_of state old.0).connected q)
-            (λ apart. linked.pended name old.0 q old.1.0 (ap is_some (sym (out.0.2 q apart)) ∙ some)))
+          (λ apart. linked.pended name old.0 q old.1.0 (ap is_some (sym (out.0.2 q apart)) ∙ some)))
           (λ apart same. ap is_some (same.1 q) ∙ linked.pended name old.0 q old.1.0 (ap is_some (sym (same.2 q)) ∙ some));
       rest = λ off. absurd (cc off);
     }
   where
     names-turned : (a b : List ℕ) → bytes_eq a b ≡ bytes_eq b a
     names-turned a b = search (rules)
-
--- the values stay where the names, what was at the opening and the taken topics do
-pub values-by : {S : Type 0} (state : S → ServerState) (p p' : RtdParts S) → map known_of p'.servers ≡ map known_of p.servers → ((topic : Topic) → opening_of state p'.servers topic ≡ opening_of state p.servers topic)
-    → filter (λ (x : ConnectedTopic). not (is_of_round p'.is_running p'.round x)) p'.table.topics ≡ filter (λ (x : ConnectedTopic). not (is_of_round p.is_running p.round x)) p.table.topics
-    → p'.is_running ≡ p.is_running → KeepsValues (source_of (rtd_of state p)) (source_of (rtd_of state p'))
-values-by {S} state p p' known opening taken run =
-    let opened : opening_of state p'.servers ≡ opening_of state p.servers = λ i. λ topic. opening topic i in
-    record {
-      snapshot = λ i. λ topic. unwrap_or (lookup (same_topic topic) (map with_value (taken i)))
-        (unwrap_or (option_and_then (λ (o : Topic → Option Value). o topic) (cond (run i) (Some (opened i)) None)) (values.Error errors.Na));
-      served = λ i. λ topic. is_some (cond (run i) (Some (opened i)) None) && knows_topic (known i) topic;
-    }
 
 -- the taken topics stay where a topic is connected in the recalculation that runs
 pub taken-connected : (run : Bool) (round : ℕ) (topics topics' : List ConnectedTopic) (t : ConnectedTopic) → run ≡ true → t.round ≡ round → topics' ≡ topics ++ t ∷ []

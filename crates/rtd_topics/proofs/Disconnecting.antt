@@ -1,5 +1,5 @@
 -- An id is taken out at a server.
-use Rattle.std.proofs.Common.{◌≡◌, ◌<◌, ℕ, zero, suc, Bool, true, false, cond, ◌||◌, List, [], ◌∷◌, arith, length, Option, None, Some, get_or, set, refl, ap, sym, subst, ◌∙◌}
+use Rattle.std.proofs.Common.{◌≡◌, ◌<◌, ℕ, zero, suc, Bool, true, false, cond, ◌||◌, List, [], ◌∷◌, arith, length, None, Some, get_or, set, refl, ap, sym, subst, ◌∙◌}
 use Rattle.std.specs.Prelude.{is_some, map, position}
 use Rattle.std.specs.List.{IsDistinct, list_any}
 use Rattle.std.proofs.lemmas.List.Quantifiers.{position-Some}
@@ -11,7 +11,7 @@ use Rattle.rtd_server.specs.Server.{ServerState}
 use Rattle.rtd_server.specs.Strings.{Strings}
 use Rattle.rtd_topics.specs.Parts.{ConnectsAt, ConnectsServer, DisconnectsAt, DisconnectsServer, FlagsAt, KeepsAt, KeepsServer, PublishesAt, PublishesServer, ShowsSame, known_of, names_of, server_named}
 use Rattle.workbook.specs.Step.{servers_with_flag}
-use Rattle.rtd_topics.proofs.ServerLists.{distinct-parts, follows-none, follows-set, equal_names, find-first, found-named, itself, known-item, map-set_same, none-named}
+use Rattle.rtd_topics.proofs.ServerLists.{distinct-parts, follows-none, follows-set, equal_names, find-first, found-named, itself, known-item, none-named}
 use Rattle.rtd_topics.proofs.Views.{keeps-itself}
 
 -- where the test is true, the first
@@ -37,8 +37,8 @@ pub disconnects-item : {S : Type 0} (state : S → ServerState) (ks : List (Serv
 disconnects-item state ks n i d k' id at name out = record {
   known = known-item ks i d k' name;
   each = follows-set (DisconnectsServer state n id) ks n i k' d at name.0
-    (name, matched-true (bytes_eq n n) (ViewDisconnects (view_of state (get_or ks i d)) (view_of state k') id) (SameView (view_of state (get_or ks i d)) (view_of state k')) (itself n) out)
-    (other-stays state n id);
+      (name, matched-true (bytes_eq n n) (ViewDisconnects (view_of state (get_or ks i d)) (view_of state k') id) (SameView (view_of state (get_or ks i d)) (view_of state k')) (itself n) out)
+      (other-stays state n id);
 }
 
 -- no server has the name
@@ -56,8 +56,8 @@ pub publishes-item : {S : Type 0} (state : S → ServerState) (ks : List (Server
 publishes-item state ks n i d k' strings value at name out = record {
   known = known-item ks i d k' name;
   each = follows-set (PublishesServer state n strings value) ks n i k' d at name.0
-    (name, matched-true (bytes_eq n n) (ViewPublishes (view_of state (get_or ks i d)) (view_of state k') strings value) (SameView (view_of state (get_or ks i d)) (view_of state k')) (itself n) out)
-    (λ m k other. ((keeps-itself state k).0, matched-false (bytes_eq n m) (ViewPublishes (view_of state k) (view_of state k) strings value) (SameView (view_of state k) (view_of state k)) other (keeps-itself state k).1));
+      (name, matched-true (bytes_eq n n) (ViewPublishes (view_of state (get_or ks i d)) (view_of state k') strings value) (SameView (view_of state (get_or ks i d)) (view_of state k')) (itself n) out)
+      (λ m k other. ((keeps-itself state k).0, matched-false (bytes_eq n m) (ViewPublishes (view_of state k) (view_of state k) strings value) (SameView (view_of state k) (view_of state k)) other (keeps-itself state k).1));
 }
 
 -- an id is connected at the place of a name
@@ -67,8 +67,8 @@ pub connects-item : {S : Type 0} (state : S → ServerState) (ks : List (ServerP
 connects-item state ks n i d k' id strings value at name out current = record {
   known = known-item ks i d k' name;
   each = follows-set (ConnectsServer state n id strings value) ks n i k' d at name.0
-    (name, matched-true (bytes_eq n n) (ViewConnects (view_of state (get_or ks i d)) (view_of state k') id strings × IsCurrent (view_of state k') id strings value) (SameView (view_of state (get_or ks i d)) (view_of state k')) (itself n) (out, current))
-    (λ m k other. ((keeps-itself state k).0, matched-false (bytes_eq n m) (ViewConnects (view_of state k) (view_of state k) id strings × IsCurrent (view_of state k) id strings value) (SameView (view_of state k) (view_of state k)) other (keeps-itself state k).1));
+      (name, matched-true (bytes_eq n n) (ViewConnects (view_of state (get_or ks i d)) (view_of state k') id strings × IsCurrent (view_of state k') id strings value) (SameView (view_of state (get_or ks i d)) (view_of state k')) (itself n) (out, current))
+      (λ m k other. ((keeps-itself state k).0, matched-false (bytes_eq n m) (ViewConnects (view_of state k) (view_of state k) id strings × IsCurrent (view_of state k) id strings value) (SameView (view_of state k) (view_of state k)) other (keeps-itself state k).1));
 }
 
 -- nothing that shows is changed at a place
@@ -90,6 +90,7 @@ flag-none (k ∷ ks) n none =
     or_parts : (a b : Bool) → (a || b) ≡ false → (a ≡ false) × (b ≡ false)
     or_parts true b h = absurd (cc h)
     or_parts false b h = (refl, h)
+
     cond-is : {X : Type 0} (b : Bool) (x y : X) → b ≡ false → y ≡ cond b x y
     cond-is true x y h = absurd (cc h)
     cond-is false x y h = refl
@@ -122,8 +123,8 @@ flags-item {S} state ks n i d k' at is =
     record {
       flags = λ once. flag-set ks n i d k' found.0 found.1 found.2 once is;
       each = follows-set (λ at'. ShowsSame state) ks n i k' d at (ap (λ (k : ServerParts S). k.name) is)
-        (subst (λ (k : ServerParts S). ShowsSame state (get_or ks i d) k) (sym is) (refl, ((λ s. refl, λ s. refl), λ id. refl, λ id. refl)))
-        (λ m k other. (refl, ((λ s. refl, λ s. refl), λ id. refl, λ id. refl)));
+          (subst (λ (k : ServerParts S). ShowsSame state (get_or ks i d) k) (sym is) (refl, ((λ s. refl, λ s. refl), λ id. refl, λ id. refl)))
+          (λ m k other. (refl, ((λ s. refl, λ s. refl), λ id. refl, λ id. refl)));
     }
 
 -- no server has the name

@@ -1,6 +1,6 @@
 -- Topics leave the table.
-use Rattle.std.proofs.Common.{◌≡◌, ◌<◌, ◌≤◌, ℕ, Bool, true, false, cond, ◌||◌, List, [], ◌∷◌, Option, None, Some, length, refl, ap, sym, subst, ◌∙◌, arith, rules}
-use Rattle.std.specs.Prelude.{◌&&◌, All, IfNone, IfSome, filter, find, is_some, map, nat_eq, not}
+use Rattle.std.proofs.Common.{◌≡◌, ◌<◌, ◌≤◌, ℕ, Bool, true, false, cond, ◌||◌, List, [], ◌∷◌, Option, None, Some, length, refl, ap, sym, subst, ◌∙◌, rules}
+use Rattle.std.specs.Prelude.{◌&&◌, All, IfNone, IfSome, filter, find, is_some, nat_eq, not}
 use Rattle.std.specs.List.{list_any}
 use Rattle.std.specs.Option.{option_and_then, option_map}
 use Rattle.std.specs.Str.{bytes_eq}
@@ -22,7 +22,7 @@ use Rattle.rtd_topics.proofs.TableFacts.{filter-all, found-passes, id-found, wit
 use Rattle.rtd_topics.proofs.Connecting.{linked-table}
 use Rattle.rtd_topics.proofs.TopicFacts.{Rises, at-self, first-pairs, other-pairs}
 use Rattle.rtd_topics.proofs.Views.{current-kept}
-use Rattle.topic_table.specs.Table.{ConnectedTopic, KeepsTable, TableState, TakesOut, has_read, has_reader, is_no_cell, leaving, readers_of, topic_at, topics_without}
+use Rattle.topic_table.specs.Table.{ConnectedTopic, KeepsTable, TableState, TakesOut, has_reader, is_no_cell, leaving, readers_of, topic_at, topics_without}
 
 -- the connections of the server of the topic that leaves, and of another
 leaves-strings : (b h : Bool) (c c' s s' : Option Strings) → c ≡ s → c' ≡ (cond h (cond b None c) c) → s' ≡ cond b None s → (b ≡ true → h ≡ false → s ≡ None) → c' ≡ s'
@@ -56,36 +56,36 @@ linked-left {S} state ks ks' table table' round id t at out takes linked =
     let V : ServerParts S → ServerParts S → Type 0 = λ k k'. ViewDisconnects (view_of state k) (view_of state k') id in
     let W : ServerParts S → ServerParts S → Type 0 = λ k k'. SameView (view_of state k) (view_of state k') in
     let was : (q : ℕ) (x : ConnectedTopic) → topic_at table'.topics q ≡ Some x → (nat_eq id q ≡ false) × (topic_at table.topics q ≡ Some x) =
-      λ q x e. without-found table.topics id q x (ap (λ ts. topic_at ts q) (sym takes.topics) ∙ e) in
+    λ q x e. without-found table.topics id q x (ap (λ ts. topic_at ts q) (sym takes.topics) ∙ e) in
     record {
       once = once-kept (names_of ks) (names_of ks') out.each.names linked.once;
       connected = λ name k' e' q.
-        let old = both-new (R name) (server_named ks name) (server_named ks' name) k' (out.each.each name) e' in
-        let put : (view_of state k').connected q ≡ cond (bytes_eq n name) (cond (nat_eq id q) None ((view_of state old.0).connected q)) ((view_of state old.0).connected q) =
+          let old = both-new (R name) (server_named ks name) (server_named ks' name) k' (out.each.each name) e' in
+          let put : (view_of state k').connected q ≡ cond (bytes_eq n name) (cond (nat_eq id q) None ((view_of state old.0).connected q)) ((view_of state old.0).connected q) =
           match-cases (bytes_eq n name) (V old.0 k') (W old.0 k')
-            ((view_of state k').connected q ≡ cond (bytes_eq n name) (cond (nat_eq id q) None ((view_of state old.0).connected q)) ((view_of state old.0).connected q)) old.1.1.1
-            (λ here gone. gone.1 q ∙ ap (λ b. cond b (cond (nat_eq id q) None ((view_of state old.0).connected q)) ((view_of state old.0).connected q)) (sym here))
-            (λ other same. same.1 q ∙ ap (λ b. cond b (cond (nat_eq id q) None ((view_of state old.0).connected q)) ((view_of state old.0).connected q)) (sym other)) in
-        leaves-strings (nat_eq id q) (bytes_eq n name) ((view_of state old.0).connected q) ((view_of state k').connected q) (strings_for table.topics name q) (strings_for table'.topics name q)
+          ((view_of state k').connected q ≡ cond (bytes_eq n name) (cond (nat_eq id q) None ((view_of state old.0).connected q)) ((view_of state old.0).connected q)) old.1.1.1
+          (λ here gone. gone.1 q ∙ ap (λ b. cond b (cond (nat_eq id q) None ((view_of state old.0).connected q)) ((view_of state old.0).connected q)) (sym here))
+          (λ other same. same.1 q ∙ ap (λ b. cond b (cond (nat_eq id q) None ((view_of state old.0).connected q)) ((view_of state old.0).connected q)) (sym other)) in
+          leaves-strings (nat_eq id q) (bytes_eq n name) ((view_of state old.0).connected q) ((view_of state k').connected q) (strings_for table.topics name q) (strings_for table'.topics name q)
           (linked.connected name old.0 old.1.0 q) put (ap (λ ts. strings_for ts name q) takes.topics ∙ strings-left table.topics name id q)
           (λ here other. ap (λ i. strings_for table.topics name i) (sym (eqb-true id q here))
-            ∙ ap (option_and_then (λ (x : ConnectedTopic). cond (bytes_eq name x.topic.server) (Some x.topic.strings) None)) at
-            ∙ ap (λ b. cond b (Some t.topic.strings) None) (names-turned name n ∙ other));
+          ∙ ap (option_and_then (λ (x : ConnectedTopic). cond (bytes_eq name x.topic.server) (Some x.topic.strings) None)) at
+          ∙ ap (λ b. cond b (Some t.topic.strings) None) (names-turned name n ∙ other));
       served = λ q x e. both-found (R x.topic.server) (server_named ks x.topic.server) (server_named ks' x.topic.server) (out.each.each x.topic.server) ∙ linked.served q x (was q x e).1;
       current = λ q x k' e e'.
-        let old = both-new (R x.topic.server) (server_named ks x.topic.server) (server_named ks' x.topic.server) k' (out.each.each x.topic.server) e' in
-        let there = was q x e in
-        match-cases (bytes_eq n x.topic.server) (V old.0 k') (W old.0 k') (IsCurrent (view_of state k') q x.topic.strings x.value) old.1.1.1
+          let old = both-new (R x.topic.server) (server_named ks x.topic.server) (server_named ks' x.topic.server) k' (out.each.each x.topic.server) e' in
+          let there = was q x e in
+          match-cases (bytes_eq n x.topic.server) (V old.0 k') (W old.0 k') (IsCurrent (view_of state k') q x.topic.strings x.value) old.1.1.1
           (λ here gone. current-kept (view_of state old.0) (view_of state k') q x.topic.strings x.value (gone.0.0 x.topic.strings)
-            (gone.2 q ∙ ap (λ b. cond b None ((view_of state old.0).pending q)) there.0) (linked.current q x old.0 there.1 old.1.0))
+          (gone.2 q ∙ ap (λ b. cond b None ((view_of state old.0).pending q)) there.0) (linked.current q x old.0 there.1 old.1.0))
           (λ other same. current-kept (view_of state old.0) (view_of state k') q x.topic.strings x.value (same.0.0 x.topic.strings) (same.2 q) (linked.current q x old.0 there.1 old.1.0));
       rounds = All-same (λ (x : ConnectedTopic). x.round ≤ round) table'.topics (topics_without table.topics id) takes.topics
-        (All-filter (λ (x : ConnectedTopic). not (nat_eq id x.id)) (λ (x : ConnectedTopic). x.round ≤ round) table.topics linked.rounds);
+          (All-filter (λ (x : ConnectedTopic). not (nat_eq id x.id)) (λ (x : ConnectedTopic). x.round ≤ round) table.topics linked.rounds);
       unread = λ q x cell e of. absurd (cc of);
       opened = λ q x e of. absurd (cc of);
       pended = λ name k' q e' some.
-        let old = both-new (R name) (server_named ks name) (server_named ks' name) k' (out.each.each name) e' in
-        match-cases (bytes_eq n name) (V old.0 k') (W old.0 k') (is_some ((view_of state k').connected q) ≡ true) old.1.1.1
+          let old = both-new (R name) (server_named ks name) (server_named ks' name) k' (out.each.each name) e' in
+          match-cases (bytes_eq n name) (V old.0 k') (W old.0 k') (is_some ((view_of state k').connected q) ≡ true) old.1.1.1
           (λ here gone. ap is_some (gone.1 q) ∙ left_pended (nat_eq id q) ((view_of state old.0).pending q) ((view_of state old.0).connected q) (linked.pended name old.0 q old.1.0) (ap is_some (sym (gone.2 q)) ∙ some))
           (λ other same. ap is_some (same.1 q) ∙ linked.pended name old.0 q old.1.0 (ap is_some (sym (same.2 q)) ∙ some));
       rest = λ off q cell. takes.running q cell ∙ ap (λ b. not (nat_eq id q) && b) (linked.rest off q cell) ∙ sym (takes.readers q cell);
@@ -99,15 +99,15 @@ pub published-left : {S : Type 0} (state : S → ServerState) (ks ks' : List (Se
     → (topic : Topic) → published_of state ks' topic ≡ published_of state ks topic
 published-left state ks ks' n id out =
     published-kept state (DisconnectsServer state n id) ks ks' out.each
-      (λ m k k' r s. match-cases (bytes_eq n m) (ViewDisconnects (view_of state k) (view_of state k') id) (SameView (view_of state k) (view_of state k')) ((view_of state k').published s ≡ (view_of state k).published s) r.1
-        (λ here gone. gone.0.0 s) (λ other same. same.0.0 s))
+    (λ m k k' r s. match-cases (bytes_eq n m) (ViewDisconnects (view_of state k) (view_of state k') id) (SameView (view_of state k) (view_of state k')) ((view_of state k').published s ≡ (view_of state k).published s) r.1
+    (λ here gone. gone.0.0 s) (λ other same. same.0.0 s))
 
 -- one more topic is disconnected
 pub drops-more : {S : Type 0} (state : S → ServerState) (ks ks' ks'' : List (ServerParts S)) (table table' table'' : TableState) (topic : Topic) (id : ℕ)
     → Drops state ks ks' table table' → Leaves table' table'' topic id → DisconnectsAt state ks' ks'' topic.server id → Drops state ks ks'' table table''
 drops-more state ks ks' ks'' table table' table'' topic id drops leaves out = record {
   linked = λ round linked. linked-left state ks' ks'' table' table'' round id leaves.left leaves.at
-    (subst (λ (x : Topic). DisconnectsAt state ks' ks'' x.server id) (sym leaves.same) out) leaves.out (drops.linked round linked);
+      (subst (λ (x : Topic). DisconnectsAt state ks' ks'' x.server id) (sym leaves.same) out) leaves.out (drops.linked round linked);
   known = out.known ∙ drops.known;
   published = λ x. published-left state ks' ks'' topic.server id out x ∙ drops.published x;
 }
@@ -143,7 +143,7 @@ no-cell (x ∷ cells) e c = absurd (cc e)
 pub read-at : (table : TableState) (id : ℕ) (t : ConnectedTopic) → topic_at table.topics id ≡ Some t → find (λ (x : ConnectedTopic). is_no_cell (readers_of table x.id)) table.topics ≡ None → IsRead table id
 read-at table id t at none =
     let some = some-cell (readers_of table id) (ap (λ i. is_no_cell (readers_of table i)) (sym (id-found table.topics id t at))
-      ∙ fails-all (λ (x : ConnectedTopic). is_no_cell (readers_of table x.id)) (λ (x : ConnectedTopic). nat_eq id x.id) table.topics t none at) in
+    ∙ fails-all (λ (x : ConnectedTopic). is_no_cell (readers_of table x.id)) (λ (x : ConnectedTopic). nat_eq id x.id) table.topics t none at) in
     record { reader = some.0; reads = some.1 }
 
 -- the topic that leaves
@@ -153,17 +153,25 @@ leaves-found old new p topic id rises first out = at (find p old.topics) refl fi
   where
     first-of : (a b : Topic × ℕ) → Some a ≡ Some b → a.0 ≡ b.0
     first-of a b h = cc h
+
     second-of : (a b : Topic × ℕ) → Some a ≡ Some b → a.1 ≡ b.1
     second-of a b h = cc h
+
     at : (o : Option ConnectedTopic) → find p old.topics ≡ o → Some (topic, id) ≡ option_map leaving o → (t : ConnectedTopic) × ((find p old.topics ≡ Some t) × Leaves old new topic id)
     at None is e = absurd (cc e)
-    at (Some t) is e = (t, (is, record {
-      left = t;
-      at = ap (topic_at old.topics) (second-of (topic, id) (leaving t) e) ∙ at-self old.topics rises p t is;
-      same = sym (first-of (topic, id) (leaving t) e);
-      rises = rises;
-      out = out;
-    }))
+    at (Some t) is e = (
+      t,
+      (
+        is,
+        record {
+          left = t;
+          at = ap (topic_at old.topics) (second-of (topic, id) (leaving t) e) ∙ at-self old.topics rises p t is;
+          same = sym (first-of (topic, id) (leaving t) e);
+          rises = rises;
+          out = out;
+        },
+      ),
+    )
 
 -- no topic is the first
 pub first-none : (topics : List ConnectedTopic) (p : ConnectedTopic → Bool) → None ≡ option_map leaving (find p topics) → find p topics ≡ None
@@ -193,6 +201,7 @@ popped-passes (Some o) old new p rises first out = λ t at.
   where
     one : (a b : ConnectedTopic) → Some a ≡ Some b → a ≡ b
     one a b h = cc h
+
     left-id : (x : (t : ConnectedTopic) × ((find p old.topics ≡ Some t) × Leaves old new o.0 o.1)) → x.0.id ≡ o.1
     left-id x = second (leaving x.0) o (sym (first ∙ ap (option_map leaving) x.1.0))
       where
@@ -251,19 +260,21 @@ pub filter-left : (topics : List ConnectedTopic) → Rises topics → (p : Conne
 filter-left [] rises p id x at fails = refl
 filter-left (y ∷ ys) rises p id x at fails =
     filter_step (nat_eq id y.id) refl (topic_at ys id) refl at
-      (filter-left ys (other-pairs (λ (a b : ConnectedTopic). a.id < b.id) y ys rises) p id x)
+    (filter-left ys (other-pairs (λ (a b : ConnectedTopic). a.id < b.id) y ys rises) p id x)
   where
     one : (a b : ConnectedTopic) → Some a ≡ Some b → a ≡ b
     one a b h = cc h
+
     apart : (a b : ℕ) → a < b → nat_eq a b ≡ false
     apart a b less = search (rules)
+
     filter_step : (b : Bool) → nat_eq id y.id ≡ b → (o : Option ConnectedTopic) → topic_at ys id ≡ o → cond b (Some y) o ≡ Some x → (topic_at ys id ≡ Some x → p x ≡ false → filter p (topics_without ys id) ≡ filter p ys)
         → filter p (cond (not b) (y ∷ topics_without ys id) (topics_without ys id)) ≡ cond (p y) (y ∷ filter p ys) (filter p ys)
     filter_step true here o is e rest =
         let gone : p y ≡ false = ap p (one y x e) ∙ fails in
         let none : topics_without ys id ≡ ys = filter-all (λ (z : ConnectedTopic). not (nat_eq id z.id)) ys
-          (All-weaker (λ (z : ConnectedTopic). y.id < z.id) (λ (z : ConnectedTopic). not (nat_eq id z.id) ≡ true)
-            (λ z less. ap not (ap (λ i. nat_eq i z.id) (eqb-true id y.id here) ∙ apart y.id z.id less)) ys (first-pairs (λ (a b : ConnectedTopic). a.id < b.id) y ys rises)) in
+        (All-weaker (λ (z : ConnectedTopic). y.id < z.id) (λ (z : ConnectedTopic). not (nat_eq id z.id) ≡ true)
+        (λ z less. ap not (ap (λ i. nat_eq i z.id) (eqb-true id y.id here) ∙ apart y.id z.id less)) ys (first-pairs (λ (a b : ConnectedTopic). a.id < b.id) y ys rises)) in
         ap (filter p) none ∙ ap (λ b. cond b (y ∷ filter p ys) (filter p ys)) (sym gone)
     filter_step false other o is e rest = ap (λ ts. cond (p y) (y ∷ ts) ts) (rest (is ∙ e) fails)
 

@@ -2,6 +2,7 @@ pub mod Adding
 pub mod Connecting
 pub mod Disconnecting
 pub mod Dropping
+pub mod Ending
 pub mod Linking
 pub mod Noting
 pub mod Publishing
@@ -13,3 +14,7 @@ pub mod TableFacts
 pub mod Taking
 pub mod TopicFacts
 pub mod Views
+pub mod Standing
+pub mod Pulling
+pub mod Telling
+pub mod StateFacts

@@ -1,5 +1,5 @@
 -- Ids and cells that are noted one after another.
-use Rattle.std.proofs.Common.{◌≡◌, ℕ, ◌+◌, ◌<◌, Bool, true, false, cond, ◌||◌, List, [], ◌∷◌, ◌++◌, Option, None, Some, length, get_or, take, refl, ap, sym, ◌∙◌, rules}
+use Rattle.std.proofs.Common.{◌≡◌, ℕ, ◌+◌, ◌<◌, Bool, true, false, cond, ◌||◌, List, [], ◌∷◌, Option, None, Some, length, get_or, take, refl, ap, sym, ◌∙◌, rules}
 use Rattle.std.specs.Prelude.{◌&&◌, is_some, nat_eq}
 use Rattle.std.specs.List.{list_any}
 use Rattle.std.specs.Map.{keys_of, lookup}
@@ -49,7 +49,7 @@ ids-more news topics keys i id value q now before old below item found one other
     let same : has_other_value topics id value ≡ differs news topics id = sym (ap (λ (o : Option Value). option_map_or (λ (v : Value). has_other_value topics id v) o false) found) in
     one ∙ ap (λ b. (has_other_value topics id value && nat_eq id q) || b) others
     ∙ one_id (nat_eq id q) (list_any (nat_eq q) (take i keys)) (differs news topics q) old (has_other_value topics id value)
-      (λ here. same ∙ ap (differs news topics) (eqb-true id q here))
+    (λ here. same ∙ ap (differs news topics) (eqb-true id q here))
     ∙ ap (λ b. ((list_any (nat_eq q) (take i keys) || b) && differs news topics q) || old) (turned id q)
     ∙ ap (λ k. ((list_any (nat_eq q) (take i keys) || nat_eq q k) && differs news topics q) || old) item
     ∙ ap (λ b. (b && differs news topics q) || old) (sym (list_any_more (nat_eq q) keys i id below))

@@ -1,9 +1,8 @@
 -- A topic is read.
-use Rattle.std.proofs.Common.{◌≡◌, ℕ, Bool, true, false, cond, ◌||◌, List, [], ◌∷◌, Option, None, Some, refl, ap, sym, subst, ◌∙◌, rules}
-use Rattle.std.specs.Prelude.{◌&&◌, filter, find, is_some, map, nat_eq, not, unwrap_or}
+use Rattle.std.proofs.Common.{◌≡◌, ℕ, Bool, true, false, cond, ◌||◌, List, Option, None, Some, refl, ap, sym, ◌∙◌, rules}
+use Rattle.std.specs.Prelude.{◌&&◌, find, is_some, map, nat_eq, not, unwrap_or}
 use Rattle.std.proofs.lemmas.Bool.{eqb-true}
 use Rattle.std.specs.List.{list_any}
-use Rattle.std.specs.Map.{lookup}
 use Rattle.std.specs.Option.{option_and_then, option_map_or}
 use Rattle.std.specs.Str.{bytes_eq}
 use Rattle.cell_refs.specs.declared.grid.Cell.{Cell}
@@ -14,16 +13,15 @@ use Rattle.cell_values.specs.declared.topics.Topic.{Topic}
 use Rattle.cell_values.specs.declared.values.Value.{Value}
 use Rattle.cell_values.specs.declared.values.Value.TheVariants as values
 use Rattle.cell_values.specs.Topic.{same_topic}
-use Rattle.cell_values.proofs.PublicLaws.{same_topics, same_topic-refl}
+use Rattle.cell_values.proofs.PublicLaws.{same_topics}
 use Rattle.known_servers.specs.Server.{ServerParts}
 use Rattle.rtd_server.specs.Server.{ServerState}
 use Rattle.rtd_server.specs.Strings.{same_strings_is}
-use Rattle.rtd_topics.specs.Parts.{IsLinked, RtdParts, is_of_round, known_of, names_of, opening_of, rtd_of, server_named, topic_has, with_value}
+use Rattle.rtd_topics.specs.Parts.{IsLinked, RtdParts, is_of_round, known_of, opening_of, rtd_of, server_named, topic_has}
 use Rattle.rtd_topics.specs.RtdState.{knows_topic, rtd_snapshot, source_of}
 use Rattle.rtd_topics.proofs.ServerLists.{equal_names, found-named, names-known}
-use Rattle.rtd_topics.proofs.TopicFacts.{Rises, StandOnce, and_first, at-self, found-equal, id-absent, id-of, id-there, value-absent, value-kept}
-use Rattle.topic_source.specs.Source.{KeepsValues}
-use Rattle.topic_table.specs.Table.{ConnectedTopic, TableState, has_read, id_of, topic_at}
+use Rattle.rtd_topics.proofs.TopicFacts.{Rises, StandOnce, and_first, at-self, found-equal, id-absent, id-there, value-absent, value-kept}
+use Rattle.topic_table.specs.Table.{ConnectedTopic, id_of, topic_at}
 
 and_second : (b c : Bool) → (b && c) ≡ true → c ≡ true
 and_second true c h = h
@@ -50,25 +48,16 @@ snapshot-at {S} state p topic t once rises linked found =
     let same : t.topic ≡ topic = sym (equal_topics topic t.topic (found-equal topic p.table.topics t found)) in
     ap (λ (o : Option Value). unwrap_or o opened) (value-kept (λ (y : ConnectedTopic). not (is_of_round p.is_running p.round y)) topic p.table.topics t once found)
     ∙ snapshot_step (is_of_round p.is_running p.round t) t.value opened
-      (λ of. linked.opened t.id t (at-self p.table.topics rises (λ (y : ConnectedTopic). same_topic topic y.topic) t found) of
-        ∙ ap (λ (x : Topic). unwrap_or (opening_of state p.servers x) na) same
-        ∙ ap (λ b. unwrap_or (option_and_then (λ (o : Topic → Option Value). o topic) (cond b (Some (opening_of state p.servers)) None)) na) (sym (and_first p.is_running (nat_eq p.round t.round) of)))
+    (λ of. linked.opened t.id t (at-self p.table.topics rises (λ (y : ConnectedTopic). same_topic topic y.topic) t found) of
+    ∙ ap (λ (x : Topic). unwrap_or (opening_of state p.servers x) na) same
+    ∙ ap (λ b. unwrap_or (option_and_then (λ (o : Topic → Option Value). o topic) (cond b (Some (opening_of state p.servers)) None)) na) (sym (and_first p.is_running (nat_eq p.round t.round) of)))
 
 -- the value of a topic that isn't connected
 pub snapshot-absent : {S : Type 0} (state : S → ServerState) (p : RtdParts S) (topic : Topic) → id_of p.table.topics topic ≡ None
     → rtd_snapshot (rtd_of state p) topic ≡ unwrap_or (option_and_then (λ (o : Topic → Option Value). o topic) (cond p.is_running (Some (opening_of state p.servers)) None)) (values.Error errors.Na)
 snapshot-absent {S} state p topic absent =
     ap (λ (o : Option Value). unwrap_or o (unwrap_or (option_and_then (λ (f : Topic → Option Value). f topic) (cond p.is_running (Some (opening_of state p.servers)) None)) (values.Error errors.Na)))
-      (value-absent (λ (y : ConnectedTopic). not (is_of_round p.is_running p.round y)) topic p.table.topics (id-absent p.table.topics topic absent))
-
--- the values stay where the topics and the servers do
-pub values-same : {S : Type 0} (state : S → ServerState) (p p' : RtdParts S) → p'.servers ≡ p.servers → p'.table.topics ≡ p.table.topics → p'.round ≡ p.round → p'.is_running ≡ p.is_running
-    → KeepsValues (source_of (rtd_of state p)) (source_of (rtd_of state p'))
-values-same {S} state p p' servers topics round running = record {
-  snapshot = λ i. λ topic. unwrap_or (lookup (same_topic topic) (map with_value (filter (λ (t : ConnectedTopic). not (is_of_round (running i) (round i) t)) (topics i))))
-    (unwrap_or (option_and_then (λ (o : Topic → Option Value). o topic) (cond (running i) (Some (opening_of state (servers i))) None)) (values.Error errors.Na));
-  served = λ i. λ topic. is_some (cond (running i) (Some (opening_of state (servers i))) None) && knows_topic (map known_of (servers i)) topic;
-}
+    (value-absent (λ (y : ConnectedTopic). not (is_of_round p.is_running p.round y)) topic p.table.topics (id-absent p.table.topics topic absent))
 
 -- two topics under one id are the same, and the same topic has one id
 pub same-id : (topics : List ConnectedTopic) → Rises topics → (a b : Topic) (m n : ℕ) → id_of topics a ≡ Some m → id_of topics b ≡ Some n → nat_eq m n ≡ same_topic a b
@@ -76,10 +65,13 @@ same-id topics rises a b m n am bn = split (same_topic a b) refl
   where
     one : (x y : ℕ) → Some x ≡ Some y → x ≡ y
     one x y e = cc e
+
     equal : (x y : ℕ) → x ≡ y → nat_eq x y ≡ true
     equal x y e = search (rules)
+
     there : (x y : ConnectedTopic) → Some x ≡ Some y → x ≡ y
     there x y e = cc e
+
     split : (s : Bool) → same_topic a b ≡ s → nat_eq m n ≡ s
     split true same = equal m n (one m n (sym am ∙ ap (id_of topics) (equal_topics a b same) ∙ bn))
     split false other = apart (nat_eq m n) refl
@@ -117,9 +109,11 @@ noted-at has has' topics rises topic id reader served at yes' puts t cell = spli
     none : (s b : Bool) → s ≡ false → false ≡ ((s && b) || false)
     none true b h = absurd (cc h)
     none false b h = refl
+
     differ : (s : Bool) → same_topic topic t ≡ s → id_of topics t ≡ None → s ≡ false
     differ true same absent = absurd (cc (sym absent ∙ same-found topics topic t same ∙ at))
     differ false other absent = refl
+
     split : (o : Option ℕ) → id_of topics t ≡ o
         → option_map_or (λ (q : ℕ). has' q cell) o false ≡ ((served && (same_topic topic t && same_cell reader cell)) || option_map_or (λ (q : ℕ). has q cell) o false)
     split None absent =
@@ -147,5 +141,5 @@ pub served-at : {S : Type 0} (state : S → ServerState) (p : RtdParts S) (topic
 served-at {S} state p topic t rises linked found running =
     let same : t.topic ≡ topic = sym (equal_topics topic t.topic (found-equal topic p.table.topics t found)) in
     let known : is_some (server_named p.servers topic.server) ≡ true =
-      ap (λ (x : Topic). is_some (server_named p.servers x.server)) (sym same) ∙ linked.served t.id t (at-self p.table.topics rises (λ (y : ConnectedTopic). same_topic topic y.topic) t found) in
+    ap (λ (x : Topic). is_some (server_named p.servers x.server)) (sym same) ∙ linked.served t.id t (at-self p.table.topics rises (λ (y : ConnectedTopic). same_topic topic y.topic) t found) in
     ap (λ b. is_some (cond b (Some (opening_of state p.servers)) None) && knows_topic (map known_of p.servers) topic) running ∙ knows-found p.servers topic ∙ known

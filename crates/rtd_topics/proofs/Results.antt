@@ -1,5 +1,4 @@
 -- Facts of an answer.
-use Rattle.std.proofs.Common.{◌≡◌}
 use Rattle.std.specs.Prelude.{Result, Ok, Err, IfOk, OnOk}
 
 -- two facts of an Ok give a third

@@ -1,20 +1,20 @@
 -- What a host keeps of real-time data, where its parts change.
-use Rattle.std.proofs.Common.{◌≡◌, ◌≢◌, ℕ, ◌+◌, ◌<◌, ◌≤◌, Bool, true, false, cond, ◌||◌, List, [], ◌∷◌, ◌++◌, Option, None, Some, get_or, refl, ap, sym, subst, ◌∙◌, arith, rules}
-use Rattle.std.specs.Prelude.{◌&&◌, All, filter, is_some, map, nat_eq, not}
+use Rattle.std.proofs.Common.{◌≡◌, ℕ, ◌<◌, ◌≤◌, Bool, true, false, cond, ◌||◌, List, [], ◌∷◌, Option, None, Some, get_or, refl, ap, sym, subst, ◌∙◌, arith, rules}
+use Rattle.std.specs.Prelude.{◌&&◌, All, filter, is_some, nat_eq, not}
 use Rattle.std.specs.List.{AllZip, list_any}
 use Rattle.std.specs.Option.{option_map_or}
 use Rattle.std.proofs.lemmas.Bool.{eqb-true}
-use Rattle.std.proofs.lemmas.List.Elements.{All-same, All-weaker}
+use Rattle.std.proofs.lemmas.List.Elements.{All-weaker}
 use Rattle.cell_refs.specs.declared.grid.Cell.{Cell}
 use Rattle.cell_values.specs.declared.topics.Topic.{Topic}
 use Rattle.cell_values.specs.declared.values.Value.{Value}
 use Rattle.known_servers.specs.Server.{ServerParts, view_of}
 use Rattle.rtd_server.specs.Server.{IsNewServer, KeepsAll, ServerState}
 use Rattle.rtd_topics.specs.RtdState.{RtdState, SameOpening, SameRtd}
-use Rattle.rtd_topics.specs.Parts.{OpensServer, RtdParts, is_of_round, opening_of, published_of, rtd_of, server_named, topic_has, with_value}
+use Rattle.rtd_topics.specs.Parts.{OpensServer, RtdParts, is_of_round, opening_of, published_of, rtd_of, server_named, topic_has}
 use Rattle.rtd_topics.proofs.ServerLists.{both-then_other, follows-zip}
 use Rattle.rtd_topics.proofs.TableFacts.{filter-all}
-use Rattle.topic_table.specs.Table.{ConnectedTopic, TableState, id_of}
+use Rattle.topic_table.specs.Table.{ConnectedTopic, id_of}
 
 -- where nothing runs
 pub none-runs : {X : Type 0} (b : Bool) (x : X) → cond b (Some x) None ≡ None → b ≡ false
@@ -32,14 +32,14 @@ opening-begun {S} state ks ks' opens topic =
     let R : List ℕ → ServerParts S → ServerParts S → Type 0 = λ m k k'. OpensServer state k k' in
     let follows = follows-zip (OpensServer state) R (λ k k' o. o.0.0) (λ m k k' o. o) ks ks' opens in
     both-then_other (λ (k : ServerParts S). (view_of state k).published topic.strings) (λ (k : ServerParts S). (view_of state k).opening topic.strings) (R topic.server)
-      (server_named ks topic.server) (server_named ks' topic.server) (λ k k' o. o.1.1 topic.strings) (follows.each topic.server)
+    (server_named ks topic.server) (server_named ks' topic.server) (λ k k' o. o.1.1 topic.strings) (follows.each topic.server)
 
 -- the topics that are taken, where none was connected in the recalculation
 pub taken-all : (run : Bool) (round : ℕ) (topics : List ConnectedTopic) → All (λ (t : ConnectedTopic). is_of_round run round t ≡ false) topics
     → filter (λ (t : ConnectedTopic). not (is_of_round run round t)) topics ≡ topics
 taken-all run round topics none =
     filter-all (λ (t : ConnectedTopic). not (is_of_round run round t)) topics
-      (All-weaker (λ (t : ConnectedTopic). is_of_round run round t ≡ false) (λ (t : ConnectedTopic). not (is_of_round run round t) ≡ true) (λ t h. ap not h) topics none)
+    (All-weaker (λ (t : ConnectedTopic). is_of_round run round t ≡ false) (λ (t : ConnectedTopic). not (is_of_round run round t) ≡ true) (λ t h. ap not h) topics none)
 
 -- none was connected in a recalculation that begins
 pub none-since : (round round' : ℕ) (topics : List ConnectedTopic) → round < round' → All (λ (t : ConnectedTopic). t.round ≤ round) topics
@@ -90,9 +90,13 @@ same-itself s = record {
 
 -- a server that was started holds what it held, nothing
 pub started : (old new : ServerState) → KeepsAll old new → IsNewServer old → IsNewServer new
-started old new kept fresh =
-    (λ s. kept.0.0 s ∙ fresh.0 s, λ s. kept.0.1 s ∙ fresh.1 s, λ s. kept.0.2 s ∙ fresh.2 s, λ id. kept.1 id ∙ fresh.3 id,
-    none_due new.due (λ id. kept.2 id ∙ ap (λ (ids : List ℕ). list_any (nat_eq id) ids) fresh.4))
+started old new kept fresh = (
+  λ s. kept.0.0 s ∙ fresh.0 s,
+  λ s. kept.0.1 s ∙ fresh.1 s,
+  λ s. kept.0.2 s ∙ fresh.2 s,
+  λ id. kept.1 id ∙ fresh.3 id,
+  none_due new.due (λ id. kept.2 id ∙ ap (λ (ids : List ℕ). list_any (nat_eq id) ids) fresh.4),
+)
   where
     none_due : (ids : List ℕ) → ((id : ℕ) → list_any (nat_eq id) ids ≡ false) → ids ≡ []
     none_due [] none = refl

@@ -1,7 +1,7 @@
 -- Lists of servers: one is changed, each is changed, one comes.
 use Rattle.std.proofs.Common.{◌≡◌, ℕ, zero, suc, ◌+◌, ◌<◌, Bool, true, false, cond, ◌||◌, List, [], ◌∷◌, ◌++◌, Option, None, Some, length, get_or, set, refl, ap, sym, subst, ◌∙◌, arith, rules}
 use Rattle.std.specs.Prelude.{◌≢◌, ◌≤◌, ◌⊎◌, All, drop, find, is_some, map, position}
-use Rattle.std.specs.List.{AllByRecursion, AllZip, IsDistinct, list_any, position_from, position_or_len}
+use Rattle.std.specs.List.{AllByRecursion, AllZip, IsDistinct, list_any, position_from}
 use Rattle.std.specs.Option.{option_and_then}
 use Rattle.std.specs.Str.{bytes_eq}
 use Rattle.std.proofs.lemmas.List.{drop_all, take_all}
@@ -178,10 +178,10 @@ pub each-more : {P : Type 0} (Z : P → P → Type 0) (fs ls : List P) (i : ℕ)
     → ((j : ℕ) (d : P) → j < i → Z (get_or fs j d) (get_or ls j d)) → ((j : ℕ) (d : P) → i ≤ j → get_or ls j d ≡ get_or fs j d) → Z x k'
     → (j : ℕ) (d : P) → j < i + 1 → Z (get_or fs j d) (get_or (set ls i k') j d)
 each-more {P} Z fs ls i x k' below long item done rest related j d at = elim (below-or_at i j at) [
-  inl before ↦ let ne : j ≢ i = omega arith in subst (λ (y : P). Z (get_or fs j d) y) (sym (get_or-set_other ls i j k' d ne)) (done j d before)
+  | inl before ↦ let ne : j ≢ i = omega arith in subst (λ (y : P). Z (get_or fs j d) y) (sym (get_or-set_other ls i j k' d ne)) (done j d before)
   | inr here ↦
-    let same : x ≡ get_or fs j d = item ∙ get-any ls i x d below ∙ rest i d (omega arith) ∙ ap (λ n. get_or fs n d) (sym here) in
-    subst (λ (y : P). Z (get_or fs j d) y) (sym (at-written ls i j k' d below here)) (subst (λ (y : P). Z y k') same related)
+      let same : x ≡ get_or fs j d = item ∙ get-any ls i x d below ∙ rest i d (omega arith) ∙ ap (λ n. get_or fs n d) (sym here) in
+      subst (λ (y : P). Z (get_or fs j d) y) (sym (at-written ls i j k' d below here)) (subst (λ (y : P). Z y k') same related)
 ]
 
 -- the elements behind stay
@@ -193,19 +193,19 @@ each-rest fs ls i k' rest j d at = let ne : j ≢ i = omega arith in get_or-set_
 pub each-kept : {P : Type 0} (Z : P → P → Type 0) (fs ls : List P) (i : ℕ) (x k' : P) → i < length ls → x ≡ get_or ls i x → ((a b c : P) → Z a b → Z b c → Z a c)
     → ((j : ℕ) (d : P) → Z (get_or fs j d) (get_or ls j d)) → Z x k' → (j : ℕ) (d : P) → Z (get_or fs j d) (get_or (set ls i k') j d)
 each-kept {P} Z fs ls i x k' below item trans kept related j d = elim (cases_order j i) [
-  inl here ↦
-    let same : x ≡ get_or ls j d = item ∙ get-any ls i x d below ∙ ap (λ n. get_or ls n d) (sym here) in
-    subst (λ (y : P). Z (get_or fs j d) y) (sym (at-written ls i j k' d below here)) (trans (get_or fs j d) (get_or ls j d) k' (kept j d) (subst (λ (y : P). Z y k') same related))
+  | inl here ↦
+      let same : x ≡ get_or ls j d = item ∙ get-any ls i x d below ∙ ap (λ n. get_or ls n d) (sym here) in
+      subst (λ (y : P). Z (get_or fs j d) y) (sym (at-written ls i j k' d below here)) (trans (get_or fs j d) (get_or ls j d) k' (kept j d) (subst (λ (y : P). Z y k') same related))
   | inr apart ↦
-    let ne : j ≢ i = elim apart [ inl l ↦ (λ e. absurd (omega arith)) | inr g ↦ (λ e. absurd (omega arith)) ] in
-    subst (λ (y : P). Z (get_or fs j d) y) (sym (get_or-set_other ls i j k' d ne)) (kept j d)
+      let ne : j ≢ i = elim apart [ inl l ↦ (λ e. absurd (omega arith)) | inr g ↦ (λ e. absurd (omega arith)) ] in
+      subst (λ (y : P). Z (get_or fs j d) y) (sym (get_or-set_other ls i j k' d ne)) (kept j d)
 ]
 
 -- a fact of each element below, and of the one that is written
 pub all-more : {P : Type 0} (Q : P → Type 0) (ls : List P) (i : ℕ) (k' : P) → i < length ls
     → ((j : ℕ) (d : P) → j < i → Q (get_or ls j d)) → Q k' → (j : ℕ) (d : P) → j < i + 1 → Q (get_or (set ls i k') j d)
 all-more {P} Q ls i k' below done new j d at = elim (below-or_at i j at) [
-  inl before ↦ let ne : j ≢ i = omega arith in subst Q (sym (get_or-set_other ls i j k' d ne)) (done j d before)
+  | inl before ↦ let ne : j ≢ i = omega arith in subst Q (sym (get_or-set_other ls i j k' d ne)) (done j d before)
   | inr here ↦ subst Q (sym (at-written ls i j k' d below here)) new
 ]
 

@@ -1,14 +1,9 @@
 -- The table of topics: a topic and its id.
-use Rattle.std.proofs.Common.{◌≡◌, ◌≢◌, ℕ, zero, suc, ◌+◌, ◌<◌, ◌≤◌, Bool, true, false, cond, List, [], ◌∷◌, ◌++◌, Option, None, Some, length, get_or, refl, ap, sym, subst, ◌∙◌, arith, rules}
-use Rattle.std.specs.Prelude.{All, AllPairs, filter, find, is_some, map, nat_eq, not}
-use Rattle.std.specs.Map.{lookup}
-use Rattle.std.specs.Option.{option_and_then, option_map, option_or}
-use Rattle.std.proofs.lemmas.Bool.{eqb-false, eqb-true}
+use Rattle.std.proofs.Common.{◌≡◌, ℕ, suc, ◌<◌, ◌≤◌, Bool, true, false, cond, List, [], ◌∷◌, Option, None, Some, length, refl, ap, sym, subst, ◌∙◌, arith, rules}
+use Rattle.std.specs.Prelude.{All, filter, find, nat_eq, not}
+use Rattle.std.specs.Option.{option_and_then}
+use Rattle.std.proofs.lemmas.Bool.{eqb-true}
 use Rattle.std.proofs.lemmas.List.Elements.{All-head, All-tail}
-use Rattle.std.proofs.lemmas.List.Folds.{find-append}
-use Rattle.cell_values.specs.declared.topics.Topic.{Topic}
-use Rattle.cell_values.specs.declared.values.Value.{Value}
-use Rattle.cell_values.specs.Topic.{same_topic}
 use Rattle.rtd_topics.proofs.ServerLists.{itself}
 use Rattle.rtd_topics.specs.Parts.{strings_for}
 use Rattle.std.specs.Str.{bytes_eq}
@@ -60,13 +55,14 @@ without-at [] id q = none (nat_eq id q)
 without-at (t ∷ ts) id q =
     first (nat_eq id t.id) t (topics_without ts id)
     ∙ one (nat_eq id t.id) (nat_eq q t.id) (nat_eq id q) t (topic_at (topics_without ts id) q) (topic_at ts q)
-      (λ out. ap (nat_eq q) (sym (eqb-true id t.id out)) ∙ turned q id)
-      (λ stays here. ap (nat_eq id) (eqb-true q t.id here) ∙ stays)
-      (without-at ts id q)
+    (λ out. ap (nat_eq q) (sym (eqb-true id t.id out)) ∙ turned q id)
+    (λ stays here. ap (nat_eq id) (eqb-true q t.id here) ∙ stays)
+    (without-at ts id q)
   where
     first : (b : Bool) (t : ConnectedTopic) (ts : List ConnectedTopic) → topic_at (cond (not b) (t ∷ ts) ts) q ≡ cond (not b) (cond (nat_eq q t.id) (Some t) (topic_at ts q)) (topic_at ts q)
     first true t ts = refl
     first false t ts = refl
+
     one : (p a d : Bool) (t : ConnectedTopic) (kept all : Option ConnectedTopic) → (p ≡ true → a ≡ d) → (p ≡ false → a ≡ true → d ≡ false) → kept ≡ cond d None all
         → cond (not p) (cond a (Some t) kept) kept ≡ cond d None (cond a (Some t) all)
     one true true true t kept all same other h = h

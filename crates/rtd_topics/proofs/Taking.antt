@@ -1,6 +1,6 @@
 -- News are taken into the table.
-use Rattle.std.proofs.Common.{◌≡◌, ℕ, ◌+◌, Bool, true, false, cond, List, [], ◌∷◌, ◌++◌, Option, None, Some, refl, ap, sym, ◌∙◌, append-nil, rules}
-use Rattle.std.specs.Prelude.{map, nat_eq, unwrap_or}
+use Rattle.std.proofs.Common.{◌≡◌, ℕ, Bool, true, false, cond, List, [], ◌∷◌, ◌++◌, Option, None, Some, refl, ap, sym, ◌∙◌, rules}
+use Rattle.std.specs.Prelude.{nat_eq, unwrap_or}
 use Rattle.std.specs.Map.{lookup}
 use Rattle.cell_values.specs.declared.values.Value.{Value}
 use Rattle.rtd_topics.specs.Parts.{topics_taken}
@@ -33,12 +33,13 @@ taken-last sorted front id v topics is = each topics ∙ ap (λ (s : List (ℕ �
   where
     turned : (a b : ℕ) → nat_eq a b ≡ nat_eq b a
     turned a b = search (rules)
+
     each : (ts : List ConnectedTopic) → topics_taken (λ q. lookup (nat_eq q) front) (topics_with_value ts id v) ≡ topics_taken (λ q. lookup (nat_eq q) (front ++ (id, v) ∷ [])) ts
     each [] = refl
     each (t ∷ ts) =
         let here : (record (cond (nat_eq id t.id) (record t { value = v }) t) { value = unwrap_or (lookup (nat_eq (cond (nat_eq id t.id) (record t { value = v }) t).id) front) (cond (nat_eq id t.id) (record t { value = v }) t).value }) ≡ record t { value = unwrap_or (lookup (nat_eq t.id) (front ++ (id, v) ∷ [])) t.value } =
-            one_topic (λ q. lookup (nat_eq q) front) id v t (nat_eq id t.id)
-            ∙ ap (λ w. record t { value = w }) (ap (λ b. unwrap_or (lookup (nat_eq t.id) front) (cond b v t.value)) (turned id t.id) ∙ sym (lookup-last (nat_eq t.id) front id v t.value)) in
+        one_topic (λ q. lookup (nat_eq q) front) id v t (nat_eq id t.id)
+        ∙ ap (λ w. record t { value = w }) (ap (λ b. unwrap_or (lookup (nat_eq t.id) front) (cond b v t.value)) (turned id t.id) ∙ sym (lookup-last (nat_eq t.id) front id v t.value)) in
         λ i. here i ∷ each ts i
 
 -- nothing is taken where there are no news

@@ -1,23 +1,14 @@
 -- The topics of the table: each has its own id, and stands once.
-use Rattle.std.proofs.Common.{◌≡◌, ◌<◌, ◌+◌, ℕ, zero, suc, Bool, true, false, cond, List, [], ◌∷◌, Option, None, Some, get_or, length, refl, ap, sym, subst, ◌∙◌, arith, rules}
-use Rattle.std.specs.Prelude.{◌&&◌, All, AllPairs, filter, find, is_some, map, nat_eq, not, unwrap_or}
-use Rattle.std.specs.Cmp.{IsEquivalence}
+use Rattle.std.proofs.Common.{◌≡◌, ◌<◌, ℕ, suc, Bool, true, false, cond, List, [], ◌∷◌, Option, None, Some, get_or, refl, ap, sym, subst, ◌∙◌, arith, rules}
+use Rattle.std.specs.Prelude.{◌&&◌, All, AllPairs, filter, find, map, nat_eq}
 use Rattle.std.specs.Map.{lookup}
-use Rattle.std.specs.Option.{option_and_then, option_map, option_map_or}
-use Rattle.std.proofs.lemmas.Bool.{eqb-true}
+use Rattle.std.specs.Option.{option_map, option_map_or}
 use Rattle.std.proofs.lemmas.List.Elements.{All-head, All-tail}
 use Rattle.cell_refs.specs.declared.grid.Cell.{Cell}
-use Rattle.cell_values.specs.declared.errors.ErrorKind.TheVariants as errors
 use Rattle.cell_values.specs.declared.topics.Topic.{Topic}
-use Rattle.cell_values.specs.declared.values.Value.{Value}
-use Rattle.cell_values.specs.declared.values.Value.TheVariants as values
 use Rattle.cell_values.specs.Topic.{same_topic}
-use Rattle.cell_values.proofs.PublicLaws.{same_topics, same_topic-refl}
-use Rattle.std.specs.Str.{bytes_eq}
-use Rattle.rtd_server.specs.Server.{ServerState}
-use Rattle.rtd_topics.specs.Parts.{IsLinked, RtdParts, is_of_round, opening_of, rtd_of, topic_has, with_value}
-use Rattle.rtd_topics.specs.RtdState.{rtd_snapshot}
-use Rattle.rtd_topics.proofs.ServerLists.{equal_names}
+use Rattle.cell_values.proofs.PublicLaws.{same_topics}
+use Rattle.rtd_topics.specs.Parts.{topic_has, with_value}
 use Rattle.rtd_topics.proofs.TableFacts.{all-found, found-passes}
 use Rattle.topic_table.specs.Table.{ConnectedTopic, id_of, topic_at}
 
@@ -89,16 +80,18 @@ pub value-kept : (q : ConnectedTopic → Bool) (topic : Topic) (topics : List Co
 value-kept q topic [] t once e = absurd (cc e)
 value-kept q topic (x ∷ xs) t once e =
     step (same_topic topic x.topic) refl (find (λ (y : ConnectedTopic). same_topic topic y.topic) xs) refl
-      (value-kept q topic xs t (other-pairs (λ (a b : ConnectedTopic). same_topic a.topic b.topic ≡ false) x xs once)) e
+    (value-kept q topic xs t (other-pairs (λ (a b : ConnectedTopic). same_topic a.topic b.topic ≡ false) x xs once)) e
   where
     here : (b : Bool) → same_topic topic x.topic ≡ true → lookup (same_topic topic) (map with_value (filter q xs)) ≡ None
         → lookup (same_topic topic) (map with_value (cond b (x ∷ filter q xs) (filter q xs))) ≡ cond b (Some x.value) None
     here true same none = ap (λ b. cond b (Some x.value) (lookup (same_topic topic) (map with_value (filter q xs)))) same
     here false same none = none
+
     there : (b : Bool) → same_topic topic x.topic ≡ false
         → lookup (same_topic topic) (map with_value (cond b (x ∷ filter q xs) (filter q xs))) ≡ lookup (same_topic topic) (map with_value (filter q xs))
     there true other = ap (λ b. cond b (Some x.value) (lookup (same_topic topic) (map with_value (filter q xs)))) other
     there false other = refl
+
     step : (b : Bool) → same_topic topic x.topic ≡ b → (o : Option ConnectedTopic) → find (λ (y : ConnectedTopic). same_topic topic y.topic) xs ≡ o
         → (find (λ (y : ConnectedTopic). same_topic topic y.topic) xs ≡ Some t → lookup (same_topic topic) (map with_value (filter q xs)) ≡ cond (q t) (Some t.value) None)
         → cond b (Some x) o ≡ Some t → lookup (same_topic topic) (map with_value (cond (q x) (x ∷ filter q xs) (filter q xs))) ≡ cond (q t) (Some t.value) None
@@ -118,6 +111,7 @@ value-absent q topic (x ∷ xs) e = step (same_topic topic x.topic) refl (find (
         → lookup (same_topic topic) (map with_value (cond b (x ∷ filter q xs) (filter q xs))) ≡ lookup (same_topic topic) (map with_value (filter q xs))
     there true other = ap (λ b. cond b (Some x.value) (lookup (same_topic topic) (map with_value (filter q xs)))) other
     there false other = refl
+
     step : (b : Bool) → same_topic topic x.topic ≡ b → (o : Option ConnectedTopic) → find (λ (y : ConnectedTopic). same_topic topic y.topic) xs ≡ o
         → (find (λ (y : ConnectedTopic). same_topic topic y.topic) xs ≡ None → lookup (same_topic topic) (map with_value (filter q xs)) ≡ None)
         → cond b (Some x) o ≡ None → lookup (same_topic topic) (map with_value (cond (q x) (x ∷ filter q xs) (filter q xs))) ≡ None
@@ -156,10 +150,10 @@ pub find-at : (topics : List ConnectedTopic) → StandOnce topics → (topic : T
 find-at [] once topic q t at same = absurd (cc at)
 find-at (x ∷ xs) once topic q t at same =
     find_step (nat_eq q x.id) (same_topic topic x.topic) x t (topic_at xs q) (find (λ (y : ConnectedTopic). same_topic topic y.topic) xs)
-      (λ last. ap (λ (y : ConnectedTopic). same_topic topic y.topic) last ∙ same)
-      (λ here there. absurd (cc (sym (same-other topic x.topic t.topic here same)
-        ∙ all-found (λ (y : ConnectedTopic). same_topic x.topic y.topic ≡ false) (λ (y : ConnectedTopic). nat_eq q y.id) xs t (first-pairs (λ (a b : ConnectedTopic). same_topic a.topic b.topic ≡ false) x xs once) there)))
-      (λ there. find-at xs (other-pairs (λ (a b : ConnectedTopic). same_topic a.topic b.topic ≡ false) x xs once) topic q t there same) at
+    (λ last. ap (λ (y : ConnectedTopic). same_topic topic y.topic) last ∙ same)
+    (λ here there. absurd (cc (sym (same-other topic x.topic t.topic here same)
+    ∙ all-found (λ (y : ConnectedTopic). same_topic x.topic y.topic ≡ false) (λ (y : ConnectedTopic). nat_eq q y.id) xs t (first-pairs (λ (a b : ConnectedTopic). same_topic a.topic b.topic ≡ false) x xs once) there)))
+    (λ there. find-at xs (other-pairs (λ (a b : ConnectedTopic). same_topic a.topic b.topic ≡ false) x xs once) topic q t there same) at
   where
     find_step : (b c : Bool) (x t : ConnectedTopic) (o p : Option ConnectedTopic) → (x ≡ t → c ≡ true) → (c ≡ true → o ≡ Some t → cond c (Some x) p ≡ Some t) → (o ≡ Some t → p ≡ Some t)
         → cond b (Some x) o ≡ Some t → cond c (Some x) p ≡ Some t
@@ -195,9 +189,9 @@ pub has-same : (has has' : ℕ → Cell → Bool) (topics topics' : List Connect
     → (topic : Topic) (cell : Cell) → topic_has has' topics' topic cell ≡ topic_has has topics topic cell
 has-same has has' topics topics' rises once rises' once' same among kept topic cell =
     both-ways (topic_has has' topics' topic cell) (topic_has has topics topic cell)
-      (λ e. let x = has-true has' topics' topic cell e in
-        let p : ConnectedTopic → Bool = λ (y : ConnectedTopic). same_topic topic y.topic in
-        has-from has topics topic cell x.0 (find-at topics once topic x.0.id x.0 (among x.0.id x.0 (at-self topics' rises' p x.0 x.1.0)) (found-equal topic topics' x.0 x.1.0)) (sym (same x.0.id cell) ∙ x.1.1))
-      (λ e. let x = has-true has topics topic cell e in
-        let p : ConnectedTopic → Bool = λ (y : ConnectedTopic). same_topic topic y.topic in
-        has-from has' topics' topic cell x.0 (find-at topics' once' topic x.0.id x.0 (kept x.0.id x.0 cell x.1.1 (at-self topics rises p x.0 x.1.0)) (found-equal topic topics x.0 x.1.0)) (same x.0.id cell ∙ x.1.1))
+    (λ e. let x = has-true has' topics' topic cell e in
+    let p : ConnectedTopic → Bool = λ (y : ConnectedTopic). same_topic topic y.topic in
+    has-from has topics topic cell x.0 (find-at topics once topic x.0.id x.0 (among x.0.id x.0 (at-self topics' rises' p x.0 x.1.0)) (found-equal topic topics' x.0 x.1.0)) (sym (same x.0.id cell) ∙ x.1.1))
+    (λ e. let x = has-true has topics topic cell e in
+    let p : ConnectedTopic → Bool = λ (y : ConnectedTopic). same_topic topic y.topic in
+    has-from has' topics' topic cell x.0 (find-at topics' once' topic x.0.id x.0 (kept x.0.id x.0 cell x.1.1 (at-self topics rises p x.0 x.1.0)) (found-equal topic topics x.0 x.1.0)) (same x.0.id cell ∙ x.1.1))

@@ -1,20 +1,21 @@
 -- What a known server holds stays, or changes.
-use Rattle.std.proofs.Common.{◌≡◌, ℕ, Bool, true, false, cond, Option, None, Some, refl, ap, sym, subst, ◌∙◌, rules}
+use Rattle.std.proofs.Common.{◌≡◌, ℕ, Bool, true, false, cond, Option, None, Some, refl, ap, sym, ◌∙◌}
 use Rattle.std.specs.Prelude.{is_some, unwrap_or}
 use Rattle.std.specs.Option.{option_eq}
 use Rattle.std.specs.Cmp.{IsEquivalence}
 use Rattle.std.proofs.lemmas.Cmp.{lists_equiv, nat_list_eq_equiv}
 use Rattle.cell_values.specs.declared.values.Value.{Value}
-use Rattle.known_servers.specs.Server.{IsCurrent, SamePublished, SameView, ServerParts, ServerView, ViewPublishes, has_strings, view_of}
+use Rattle.known_servers.specs.Server.{IsCurrent, SameView, ServerParts, ServerView, ViewPublishes}
 use Rattle.rtd_server.specs.Server.{ServerState}
 use Rattle.rtd_server.specs.Strings.{Strings, same_strings}
 use Rattle.rtd_topics.specs.Parts.{KeepsServer}
 
 -- what stays twice stays
 pub keeps-trans : {S : Type 0} (state : S → ServerState) (a b c : ServerParts S) → KeepsServer state a b → KeepsServer state b c → KeepsServer state a c
-keeps-trans state a b c h k =
-    ((k.0.0 ∙ h.0.0, k.0.1 ∙ h.0.1),
-    ((λ s. k.1.0.0 s ∙ h.1.0.0 s, λ s. k.1.0.1 s ∙ h.1.0.1 s), λ id. k.1.1 id ∙ h.1.1 id, λ id. k.1.2 id ∙ h.1.2 id))
+keeps-trans state a b c h k = (
+  (k.0.0 ∙ h.0.0, k.0.1 ∙ h.0.1),
+  ((λ s. k.1.0.0 s ∙ h.1.0.0 s, λ s. k.1.0.1 s ∙ h.1.0.1 s), λ id. k.1.1 id ∙ h.1.1 id, λ id. k.1.2 id ∙ h.1.2 id),
+)
 
 -- what a topic needs of its server: its connections stay, and what is current and what was at the opening
 pub record KeepsLink (old new : ServerView) : Type 0 where
@@ -56,9 +57,9 @@ link-published old new strings value publishes = record {
   connected = publishes.2;
   opening = publishes.1;
   current = λ id s v linked current.
-    ap (λ o. unwrap_or o v) (publishes.0 s ∙ ap (λ b. cond b (Some value) (old.published s)) (same_strings_laws.symm strings s))
-    ∙ publish_current (same_strings s strings) value v (old.published s) (old.pending id) current
-    ∙ ap (λ o. unwrap_or o v) (sym (publishes.3 id ∙ ap (λ (c : Option Strings). cond (option_eq same_strings c (Some strings)) (Some value) (old.pending id)) linked));
+      ap (λ o. unwrap_or o v) (publishes.0 s ∙ ap (λ b. cond b (Some value) (old.published s)) (same_strings_laws.symm strings s))
+      ∙ publish_current (same_strings s strings) value v (old.published s) (old.pending id) current
+      ∙ ap (λ o. unwrap_or o v) (sym (publishes.3 id ∙ ap (λ (c : Option Strings). cond (option_eq same_strings c (Some strings)) (Some value) (old.pending id)) linked));
   pended = λ h id some. ap is_some (publishes.2 id) ∙ publish_pended (old.connected id) strings value (old.pending id) (h id) (ap is_some (sym (publishes.3 id)) ∙ some);
 }
 

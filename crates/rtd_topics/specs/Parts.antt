@@ -1,5 +1,5 @@
 -- For the crate's own functions: the parts that a host's real-time data are kept in.
-use Rattle.std.specs.Prelude.{◌≡◌, ℕ, ◌≤◌, Bool, true, false, not, ◌&&◌, List, [], ◌∷◌, Option, Some, None, is_some, if◌then◌else◌, nat_eq, map, find, filter, unwrap_or, All, AllPairs}
+use Rattle.std.specs.Prelude.{◌≡◌, ℕ, ◌≤◌, Bool, true, false, not, ◌&&◌, List, [], ◌∷◌, Option, Some, None, is_some, if◌then◌else◌, nat_eq, map, find, filter, unwrap_or, All}
 use Rattle.std.specs.Bool.{MatchBool}
 use Rattle.std.specs.List.{AllZip, IsDistinct, list_any}
 use Rattle.std.specs.Map.{lookup}
@@ -16,7 +16,7 @@ use Rattle.rtd_server.specs.Strings.{Strings}
 use Rattle.rtd_topics.specs.RtdState.{RtdState}
 use Rattle.throttle.specs.Pacing.{Pacing}
 use Rattle.topic_table.specs.Table.{ConnectedTopic, TableState, has_other_value, has_read, has_reader, id_of, topic_at}
-use Rattle.workbook.specs.State.{KnownServer}
+use Rattle.workbook.specs.State.{KnownServer, ThrottleState}
 use Rattle.workbook.specs.Step.{servers_with_flag}
 
 -- the known servers, the table of connected topics, the throttle, the number of the last recalculation, whether it runs,
@@ -59,13 +59,17 @@ with_value t = (t.topic, t.value)
 abbrev pub topic_has : (ℕ → Cell → Bool) → List ConnectedTopic → Topic → Cell → Bool
 topic_has has topics topic cell = option_map_or (λ (id : ℕ). has id cell) (id_of topics topic) false
 
+-- the throttle, in the words of a host's state
+abbrev pub throttle_of : Pacing → ThrottleState
+throttle_of pacing = record { interval = pacing.interval; last = pacing.last }
+
 -- what the parts stand for
 abbrev pub rtd_of : {S : Type 0} → (S → ServerState) → RtdParts S → RtdState
 rtd_of {S} state p = record {
   servers = map known_of p.servers;
   published = published_of state p.servers;
   taken = map with_value (filter (λ (t : ConnectedTopic). not (is_of_round p.is_running p.round t)) p.table.topics);
-  throttle = record { interval = p.pacing.interval; last = p.pacing.last };
+  throttle = throttle_of p.pacing;
   opening = if p.is_running then Some (opening_of state p.servers) else None;
   readers = topic_has (has_reader p.table) p.table.topics;
   reading = topic_has (has_read p.table) p.table.topics;

@@ -1,11 +1,10 @@
 -- What a host keeps of real-time data, and how its calls change it.
-use Rattle.std.specs.Prelude.{◌≡◌, ◌≤◌, ℕ, Bool, true, false, not, ◌&&◌, ◌||◌, List, [], ◌∷◌, Option, Some, None, is_some, if◌then◌else◌, unwrap_or, map, All, AllPairs}
+use Rattle.std.specs.Prelude.{◌≡◌, ◌≤◌, ℕ, Bool, true, false, not, ◌&&◌, List, [], Option, Some, None, is_some, if◌then◌else◌, unwrap_or, map}
 use Rattle.std.specs.List.{filter, list_any, IsDistinct}
 use Rattle.std.specs.Map.{keys_of, lookup}
 use Rattle.std.specs.Str.{bytes_eq}
-use Rattle.std.specs.Option.{option_and_then, option_map_or}
+use Rattle.std.specs.Option.{option_and_then}
 use Rattle.cell_refs.specs.declared.grid.Cell.{Cell}
-use Rattle.cell_refs.specs.Cell.{is_among}
 use Rattle.cell_values.specs.declared.topics.Topic.{Topic}
 use Rattle.cell_values.specs.declared.values.Value.{Value}
 use Rattle.cell_values.specs.SameValue.{same_value}
@@ -17,7 +16,7 @@ use Rattle.throttle.specs.declared.limits.TheConstants.{MAX_MOMENT}
 use Rattle.workbook.specs.declared.commands.Moment.{Moment}
 use Rattle.workbook.specs.declared.commands.Moment.TheVariants as moments
 use Rattle.workbook.specs.Pulling.{Due, Now, Early, Manual, gives_values, is_named}
-use Rattle.workbook.specs.State.{KnownServer, ThrottleState, not_available, value_among}
+use Rattle.workbook.specs.State.{KnownServer, ThrottleState, not_available}
 
 -- what a host keeps of real-time data
 pub record RtdState : Type 0 where

@@ -12,10 +12,7 @@ use rtd_server::RtdServer;
 use topic_table::Topics;
 
 /// Disconnects the topics that no cell is kept to read.
-pub fn disconnect_unread<S: RtdServer + Drop>(
-    servers: &mut Vec<KnownServer<S>>,
-    table: &mut Topics,
-)
+pub fn disconnect_unread<S: RtdServer + Drop>(servers: &mut Vec<KnownServer<S>>, table: &mut Topics)
     ensures { DropsUnread S.state servers.old.items servers.new.items table.old table.new }
 {
     while let Some((topic, id)) = pop_unread(table) {

@@ -5,8 +5,8 @@ mod leaving;
 mod pulls;
 mod servers;
 mod sources;
-mod topics;
 #[cfg(test)]
 mod tests;
+mod topics;
 
 pub use topics::{NewServer, PullNews, RtdTopics};

@@ -5,8 +5,10 @@ ghost use Rattle.std.specs.List.{list_any};
 ghost use Rattle.cell_refs.specs.declared.grid.Cell.{Cell as OneCell};
 ghost use Rattle.cell_refs.specs.Cell.{is_among};
 ghost use Rattle.cell_values.specs.SameValue.{same_value};
-ghost use Rattle.rtd_topics.specs.Parts.{TakesAll, TakesNews, differs, is_news, is_news_of_one};
+ghost use Rattle.rtd_topics.specs.Parts.{TakesAll, TakesNews, differs, is_news, is_news_of_one, throttle_of};
+ghost use Rattle.rtd_topics.specs.RtdState.{IsMoment};
 ghost use Rattle.topic_table.specs.Table.{has_other_value, has_reader};
+ghost use Rattle.workbook.specs.Pulling.{pulled_throttle};
 
 use cell_refs::Cell;
 use cell_values::{Memory, Value};
@@ -14,7 +16,9 @@ use indexmap::IndexSet;
 use known_servers::KnownServer;
 use rtd_server::RtdServer;
 use std::alloc::Global;
+use throttle::Throttle;
 use topic_table::Topics;
+use workbook::Moment;
 
 /// The ids of the topics whose value a pull changes.
 pub fn changed_ids<S: RtdServer + Drop>(
@@ -139,4 +143,14 @@ fn take_news<S: RtdServer + Drop>(known: &mut KnownServer<S>, table: &mut Topics
         let _ = table.take(id, value);
     }
     known.set_flag(false);
+}
+
+/// Notes the moment of a pull; a forced one leaves no trace.
+pub fn note_pull(throttle: &mut Throttle, moment: &Moment)
+    requires { IsMoment moment.now }
+    ensures { throttle_of throttle.new ≡ pulled_throttle (throttle_of throttle.old) moment.now }
+{
+    if let Moment::At(now) = moment {
+        throttle.pulled(*now);
+    }
 }

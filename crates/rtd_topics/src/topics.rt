@@ -8,10 +8,9 @@ ghost use Rattle.rtd_topics.specs.Parts.{rtd_of};
 ghost use Rattle.rtd_topics.specs.RtdState.{IsRtdState, RunsNone, RunsRound, SameOpening, SamePublished, SameReaders, SameRtd, SameTopics, TakesRead, due_as, reads_one, rtd_snapshot, topics_changed};
 
 use super::leaving::{disconnect_since, disconnect_unread};
-use super::pulls::{changed_ids, readers_of, take_all};
+use super::pulls::{changed_ids, note_pull, readers_of, take_all};
 use super::servers::{
-    connect_at, copy_texts, gather_all, is_any_flagged, open_all, publish_at,
-    raise_flag,
+    connect_at, copy_texts, gather_all, is_any_flagged, open_all, publish_at, raise_flag,
 };
 use cell_refs::Cell;
 use cell_values::{ErrorKind, Memory, Name, Text, Texts, Topic, Value};
@@ -118,6 +117,21 @@ impl<S: RtdServer + Drop> RtdTopics<S> {
         self.table.facts();
     }
 
+    /// Whether a recalculation runs.
+    pub fn is_running(&self) -> bool
+        ensures runs { result ≡ true → RunsRound (rtd_of S.state self.now) }
+        ensures none { result ≡ false → RunsNone (rtd_of S.state self.now) }
+    {
+        self.is_running
+    }
+
+    /// The number of the last recalculation that began.
+    pub fn round(&self) -> u64
+        ensures { result ≡ (rtd_of S.state self.now).round }
+    {
+        self.round
+    }
+
     /// Whether a server is known.
     pub fn knows(&self, name: &Name) -> bool
         ensures { result ≡ is_named (names_known (rtd_of S.state self.now)) name.now }
@@ -126,8 +140,11 @@ impl<S: RtdServer + Drop> RtdTopics<S> {
     }
 
     /// Makes and starts a server, and takes the memory to add one; None where it didn't start.
-    pub fn make_server<M: Maker<Server = S>>(&mut self, maker: &mut M, name: &Name)
-        -> Result<Option<NewServer<S>>, Memory>
+    pub fn make_server<M: Maker<Server = S>>(
+        &mut self,
+        maker: &mut M,
+        name: &Name,
+    ) -> Result<Option<NewServer<S>>, Memory>
         ensures same { SameRtd (rtd_of S.state self.old) (rtd_of S.state self.new) }
         ensures started { IfOk result (λ made. is_some made ≡ true) }
         ensures named { IfOk result (λ made. IfSome made (λ server. server.name ≡ name.now)) }
@@ -238,7 +255,29 @@ impl<S: RtdServer + Drop> RtdTopics<S> {
             cell) }
         ensures prepared { OnOk result (IsPrepared S.state self.new) }
     {
-        gather_all(&mut self.servers)?;
+        self.gather()?;
+        self.pull_news()
+    }
+
+    /// Has the flagged servers give their news. It changes nothing that shows.
+    fn gather(&mut self) -> Result<(), Memory>
+        ensures same { SameRtd (rtd_of S.state self.old) (rtd_of S.state self.new) }
+        ensures prepared { OnOk result (IsPrepared S.state self.new) }
+    {
+        gather_all(&mut self.servers)
+    }
+
+    /// Tells what a pull takes, where all was given.
+    fn pull_news(&self) -> Result<PullNews, Memory>
+        requires none { RunsNone (rtd_of S.state self.now) }
+        requires prepared { IsPrepared S.state self.now }
+        ensures changed { IfOk result (λ news. news.changed
+            ≡ length (topics_changed (rtd_of S.state self.now))) }
+        ensures readers { IfOk result (λ news. (cell : OneCell) → is_among news.readers.items cell
+            ≡ reads_one (rtd_of S.state self.now) (topics_changed (rtd_of S.state self.now))
+            cell) }
+    {
+        self.table.facts();
         let ids = changed_ids(self.alloc, &self.servers, &self.table)?;
         let readers = readers_of(self.alloc, &self.table, ids.as_slice())?;
         Ok(PullNews {
@@ -263,10 +302,9 @@ impl<S: RtdServer + Drop> RtdTopics<S> {
         ensures read { SameReaders (rtd_of S.state self.old) (rtd_of S.state self.new) }
         ensures round { (rtd_of S.state self.new).round ≡ (rtd_of S.state self.old).round }
     {
+        self.table.facts();
         take_all(&mut self.servers, &mut self.table);
-        if let Moment::At(now) = moment {
-            self.throttle.pulled(*now);
-        }
+        note_pull(&mut self.throttle, moment);
     }
 
     /// A recalculation begins, with a number greater than those before. What these cells have read is forgotten for it.
@@ -333,9 +371,11 @@ impl<S: RtdServer + Drop> RtdTopics<S> {
             ≡ (rtd_of S.state self.old).readers topic cell }
         ensures round { (rtd_of S.state self.new).round ≡ (rtd_of S.state self.old).round }
     {
+        self.table.facts();
         self.is_running = false;
         self.table.drop_round();
         disconnect_since(&mut self.servers, &mut self.table, self.round);
+        self.table.facts();
     }
 }
 
@@ -455,10 +495,10 @@ fn add_topic(table: &mut Topics, topic: Topic, value: Value, round: u64)
     requires new { id_of table.old.topics topic ≡ None }
     requires room { 0 < table.old.room }
     ensures topics { table.new.topics ≡ table.old.topics ++ (record {
-        id = table.old.greatest + 1;
-        topic = topic;
-        value = value;
-        round = round
+      id = table.old.greatest + 1;
+      topic = topic;
+      value = value;
+      round = round;
     }) ∷ [] }
     ensures readers { KeepsTableReaders table.old table.new }
     ensures running { KeepsRunning table.old table.new }

@@ -26,7 +26,7 @@ use Rattle.workbook.specs.declared.contents.Content.{Content}
 use Rattle.workbook.specs.declared.contents.Content.TheVariants as contents
 use Rattle.workbook.specs.State.{State}
 use Rattle.workbook.specs.Step.{reply_to, state_after}
-use Rattle.host_core.specs.Form.{IsContentInForm}
+use Rattle.workbook.specs.InForm.{IsContentInForm}
 use Rattle.host_core.specs.HostState.{HostState}
 use Rattle.rtdhost.specs.Desk.{IsRefused, SaysDeskCommands, Stands, room_of}
 use Rattle.rtdhost.specs.Output.{program_terms, replies_to_first, said_reply, said_after}

@@ -1,7 +1,7 @@
 -- For the crate's own functions: the desk that stands for a state, and when it refuses a command of a line.
 use Rattle.std.specs.Prelude.{◌≡◌, ℕ, ◌-◌, ◌<◌, ◌≤◌, Option, List, ◌++◌, length}
 use Rattle.addin_types.specs.Samples.{sample_answer}
-use Rattle.host_core.specs.Form.{IsInForm}
+use Rattle.workbook.specs.InForm.{IsInForm}
 use Rattle.host_core.specs.HostState.{HostState, IsDeskCommand, terms_of}
 use Rattle.session_script.specs.declared.script.Parsed.{Parsed}
 use Rattle.session_script.specs.declared.script.Parsed.TheVariants as parsed

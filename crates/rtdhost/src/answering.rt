@@ -1,7 +1,7 @@
 //! Acts on the lines of a script and appends their replies.
 
 ghost use Rattle.std.specs.Prelude.{◌≡◌, ◌++◌, ◌+◌, [], IfErr, OnOk, None, Some, length};
-ghost use Rattle.host_core.specs.Form.{IsInForm};
+ghost use Rattle.workbook.specs.InForm.{IsInForm};
 ghost use Rattle.host_core.specs.HostState.{IsDeskCommand};
 ghost use Rattle.rtdhost.specs.Desk.{IsRefused, Stands};
 ghost use Rattle.rtdhost.specs.Output.{commands_of_line, program_terms, said_reply, said_after};

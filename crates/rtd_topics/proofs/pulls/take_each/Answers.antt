@@ -1,10 +1,10 @@
-use Rattle.std.proofs.Common.{◌≡◌, ◌<◌, ℕ, suc, ◌+◌, List, [], ◌∷◌, drop, get_or, length, ap, sym, ◌∙◌, add-one, arith, subst}
+use Rattle.std.proofs.Common.{◌≡◌, ◌<◌, ℕ, ◌+◌, List, drop, get_or, length, ap, sym, ◌∙◌, add-one, arith, subst}
 use Rattle.std.proofs.Math.ListN.{length-set}
 use Rattle.std.proofs.Math.Seq.{drop-cons}
 use Rattle.std.proofs.lemmas.List.{drop_all}
 use Rattle.known_servers.specs.Server.{ServerParts}
 use Rattle.rtd_topics.specs.Parts.{TakesServer, topics_after, topics_after_one}
-use Rattle.rtd_topics.proofs.ServerLists.{each-more, each-rest, get-any, zip-from_each}
+use Rattle.rtd_topics.proofs.ServerLists.{each-more, each-rest, zip-from_each}
 use Rattle.topic_table.specs.Table.{ConnectedTopic}
 use Rattle.rtd_topics.proofs.pulls.take_each.Goals as goal
 
@@ -23,12 +23,12 @@ loop-known-preserved g c =
     let first : c.loop-known.known-index < length c.args.servers.now = omega (arith, c.loop-known.invariant.long) in
     record {
       done = each-more TakesServer _ c.loop-known.servers c.loop-known.known-index c.known-item.result c.take_one.new.known below c.loop-known.invariant.long c.known-item.is
-        c.loop-known.invariant.done c.loop-known.invariant.rest
-        (subst (λ (k : ServerParts g.row.S.Denot). TakesServer k c.take_one.new.known) (sym c.known-item.is) c.take_one.ensures.server);
+          c.loop-known.invariant.done c.loop-known.invariant.rest
+          (subst (λ (k : ServerParts g.row.S.Denot). TakesServer k c.take_one.new.known) (sym c.known-item.is) c.take_one.ensures.server);
       rest = each-rest _ c.loop-known.servers c.loop-known.known-index c.take_one.new.known c.loop-known.invariant.rest;
       long = length-set c.loop-known.servers c.loop-known.known-index c.take_one.new.known ∙ c.loop-known.invariant.long;
       topics = after-more c.args.servers.now c.loop-known.servers c.loop-known.known-index c.known-item.result c.loop-known.table.topics c.take_one.new.table.topics first below
-        (λ d. c.loop-known.invariant.rest c.loop-known.known-index d (omega arith)) c.take_one.ensures.topics ∙ c.loop-known.invariant.topics;
+          (λ d. c.loop-known.invariant.rest c.loop-known.known-index d (omega arith)) c.take_one.ensures.topics ∙ c.loop-known.invariant.topics;
       others = record { readings = c.take_one.ensures.others.readings ∙ c.loop-known.invariant.others.readings; greatest = c.take_one.ensures.others.greatest ∙ c.loop-known.invariant.others.greatest };
     }
 

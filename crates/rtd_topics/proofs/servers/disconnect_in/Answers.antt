@@ -1,4 +1,4 @@
-use Rattle.std.proofs.Common.{sym, ◌∙◌}
+use Rattle.std.proofs.Common.{sym}
 use Rattle.std.proofs.Common.{rules}
 use Rattle.rtd_topics.proofs.Disconnecting.{disconnects-item, disconnects-none}
 use Rattle.rtd_topics.proofs.servers.disconnect_in.Goals as goal

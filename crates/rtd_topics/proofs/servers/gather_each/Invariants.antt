@@ -1,4 +1,4 @@
-use Rattle.std.proofs.Common.{◌≡◌, ◌<◌, ◌≤◌, ℕ, get_or, length}
+use Rattle.std.proofs.Common.{◌≡◌, ◌<◌, ℕ, get_or, length}
 use Rattle.known_servers.specs.Server.{ServerParts}
 use Rattle.rtd_topics.specs.Parts.{IsPreparedServer, KeepsServer}
 use Rattle.rtd_topics.proofs.servers.gather_each.Given as goal

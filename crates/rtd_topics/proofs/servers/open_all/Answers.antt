@@ -1,4 +1,4 @@
-use Rattle.std.proofs.Common.{arith, rules, subst, sym, length, ◌≡◌, List}
+use Rattle.std.proofs.Common.{rules, subst, sym, List}
 use Rattle.std.specs.List.{AllZip}
 use Rattle.known_servers.specs.Server.{ServerParts}
 use Rattle.rtd_topics.specs.Parts.{OpensServer}

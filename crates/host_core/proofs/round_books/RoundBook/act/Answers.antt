@@ -1,7 +1,7 @@
 use Rattle.std.proofs.Common.{◌≡◌, subst}
 use Rattle.std.proofs.lemmas.Int.{to_z-of_z}
 use Rattle.workbook.specs.declared.commands.Command.TheVariants as commands
-use Rattle.host_core.specs.Form.{IsInForm}
+use Rattle.workbook.specs.InForm.{IsInForm}
 use Rattle.host_core.specs.Standing.{IsStep}
 use Rattle.host_core.proofs.HostKept.{interval_fits}
 use Rattle.host_core.proofs.round_books.RoundBook.act.Goals as goal

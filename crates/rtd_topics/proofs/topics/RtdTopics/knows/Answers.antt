@@ -1,4 +1,4 @@
-use Rattle.std.proofs.Common.{List, ℕ, ap, sym, ◌∙◌}
+use Rattle.std.proofs.Common.{ap, sym, ◌∙◌}
 use Rattle.std.specs.Prelude.{is_some, map, position}
 use Rattle.std.specs.List.{list_any}
 use Rattle.known_servers.specs.Server.{has_name}

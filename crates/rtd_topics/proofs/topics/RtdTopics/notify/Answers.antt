@@ -11,10 +11,11 @@ use Rattle.rtd_topics.proofs.ServerLists.{found-named, names-known}
 use Rattle.rtd_topics.proofs.topics.RtdTopics.notify.Goals as goal
 
 pub invariant_of-self : goal.invariant_of-self
-invariant_of-self g c =
-    (linked-kept g.S.RtdServer.state (λ m. ShowsSame g.S.RtdServer.state) c.self.inside.servers.items c.raise_flag.new.servers.items c.self.inside.table c.self.inside.round c.self.inside.is_running
+invariant_of-self g c = (
+  linked-kept g.S.RtdServer.state (λ m. ShowsSame g.S.RtdServer.state) c.self.inside.servers.items c.raise_flag.new.servers.items c.self.inside.table c.self.inside.round c.self.inside.is_running
       c.raise_flag.ensures.flags.each (λ m. link-shows g.S.RtdServer.state) c.self.invariant.0,
-    c.self.invariant.1)
+  c.self.invariant.1,
+)
 
 pub returns-clause-known : goal.returns-clause-known
 returns-clause-known g c =

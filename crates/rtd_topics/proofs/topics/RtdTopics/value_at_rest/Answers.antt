@@ -1,4 +1,4 @@
-use Rattle.std.proofs.Common.{◌≡◌, Option, None, Some, cond, ap, sym, ◌∙◌}
+use Rattle.std.proofs.Common.{Option, None, Some, cond, ap, sym, ◌∙◌}
 use Rattle.std.specs.Prelude.{unwrap_or}
 use Rattle.std.specs.Option.{option_and_then}
 use Rattle.cell_values.specs.declared.errors.ErrorKind.TheVariants as errors
@@ -13,4 +13,4 @@ use Rattle.rtd_topics.proofs.topics.RtdTopics.value_at_rest.Goals as goal
 pub returns-in-None : goal.returns-in-None
 returns-in-None g c =
     sym (snapshot-absent g.S.RtdServer.state c.args.self.now c.args.topic.now (sym (ap (λ p. id_of p.table.topics c.args.topic.now) c.self.view_is) ∙ sym c.in-None.ensures)
-      ∙ ap (λ b. unwrap_or (option_and_then (λ (o : Topic → Option Value). o c.args.topic.now) (cond b (Some (opening_of g.S.RtdServer.state c.args.self.now.servers)) None)) (values.Error errors.Na)) c.requires)
+    ∙ ap (λ b. unwrap_or (option_and_then (λ (o : Topic → Option Value). o c.args.topic.now) (cond b (Some (opening_of g.S.RtdServer.state c.args.self.now.servers)) None)) (values.Error errors.Na)) c.requires)
