@@ -1,10 +1,6 @@
 -- Lemmas of this crate, and those that crates above may cite.
-mod Chains
+mod Accepting
+mod Asking
 mod Finishing
-mod Jobs
-mod Readings
-mod Samples
-mod TopicsRead
-mod Unknowns
-mod Working
+mod OpenCells
 pub mod PublicLaws

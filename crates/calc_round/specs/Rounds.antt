@@ -1,5 +1,5 @@
 -- A recalculation: what is present means, which cells are left, and what stays as it was.
-use Rattle.std.specs.Prelude.{◌≡◌, ℕ, Bool, true, not, ◌||◌, ◌&&◌, Some, is_some, List, nat_eq}
+use Rattle.std.specs.Prelude.{◌≡◌, ◌+◌, ◌≤◌, ℕ, Bool, true, not, ◌||◌, ◌&&◌, Some, is_some, List, length, nat_eq, vec_capacity}
 use Rattle.std.specs.List.{IsDistinct, list_any}
 use Rattle.std.specs.Map.{lookup}
 use Rattle.addin_types.specs.declared.registrations.Registration.{Registration}
@@ -16,6 +16,7 @@ use Rattle.workbook.specs.Book.{IsInOrder, cell_precedents, content_at, is_formu
 use Rattle.workbook.specs.Circular.{is_circular}
 use Rattle.workbook.specs.Meaning.{Setting, Val, Asks, asks_call, is_open, meaning}
 use Rattle.workbook.specs.Registry.{registration_of}
+use Rattle.calc_round.specs.declared.open_work.OpenWork.{OpenWork}
 
 -- what cells are evaluated over where topics have these values, asynchronous calls these results by cell and site, and
 -- names these registrations
@@ -49,11 +50,11 @@ has_call calls cell = is_some (call_at calls cell)
 -- an open call is one of this recalculation, for which its cell asks; the cell is an unfinished and touched entry of the
 -- chain
 pub record IsAsked (setting : Setting) (book : List (Cell × Content)) (store : StoreState) (entries : List Cell)
-    (round : ℕ) (entry : OpenCall) : Type 0 where
-  pub round : entry.call.handle.round ≡ round
-  pub asks : meaning setting book (cell_of entry) ≡ Asks entry.call.handle.site entry.call.name entry.call.args
-  pub entry : (is_among entries (cell_of entry) && is_unfinished store (cell_of entry)) ≡ true
-  pub touched : is_touched store (cell_of entry) ≡ true
+    (round : ℕ) (opened : OpenCall) : Type 0 where
+  pub in_round : opened.call.handle.round ≡ round
+  pub asks : meaning setting book (cell_of opened) ≡ Asks opened.call.handle.site opened.call.name opened.call.args
+  pub entry : (is_among entries (cell_of opened) && is_unfinished store (cell_of opened)) ≡ true
+  pub touched : is_touched store (cell_of opened) ≡ true
 
 -- what is present has its meaning; the pending cells are unfinished and touched entries of the chain, each once, and have
 -- no open call; each open call is asked for; each unfinished cell is circular, pending, or has an open call
@@ -70,6 +71,13 @@ pub record IsWorking (setting : Setting) (book : List (Cell × Content)) (store 
       → IsAsked setting book store entries round entry
   pub left : (q : Cell) → is_unfinished store q ≡ true
       → (is_circular book q || (is_among pending q || has_call calls q)) ≡ true
+
+-- there is room for the cells that are to be looked at, also when those of the open calls are to be too, and for the calls
+-- that they may ask for
+abbrev pub HasRoom : OpenWork → Type 0
+HasRoom work =
+    (length work.waiting.items + length work.calls.calls ≤ vec_capacity work.waiting)
+    × (length work.waiting.items ≤ work.calls.spare)
 
 -- what is present has its meaning; each cell that asks has an open call, and each cell that waits, asks or is circular is
 -- unfinished

@@ -1,12 +1,11 @@
-//! What goes on in one recalculation: the unfinished cells are evaluated along the chain, over the store of values.
+//! What goes on in one recalculation, as it stands in for the time being: nothing is evaluated, and memory is wanting.
 #![tactic(auto)]
 
-mod looks;
-mod places;
+mod laws;
+mod open_work;
 mod rounds;
-#[cfg(test)]
-mod tests;
-mod valuing;
 
 pub use cell_values::Memory;
+pub use laws::accepted_one;
+pub use open_work::OpenWork;
 pub use rounds::work_out;
