@@ -4,7 +4,8 @@ mod SheetLaws
 mod SettleLaws
 mod Readings
 mod NotingLaws
-mod Samples
+mod AskedCalls
+mod Redeeming
 mod BeginningLists
 mod BeginningMeans
 mod BeginningLoops

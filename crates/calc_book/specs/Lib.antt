@@ -5,4 +5,3 @@ pub mod Keeping
 pub mod Edits
 pub mod Begun
 pub mod Calling
-pub mod Samples

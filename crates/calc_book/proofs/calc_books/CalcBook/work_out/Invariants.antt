@@ -1,4 +1,4 @@
-use Rattle.calc_book.proofs.calc_books.CalcBook.settle.Given as goal
+use Rattle.calc_book.proofs.calc_books.CalcBook.work_out.Given as goal
 
 -- the steps are those of the blank that is made for them
 abbrev pub ghosts-evaluate : goal.ghosts-evaluate
