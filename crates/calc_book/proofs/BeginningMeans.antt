@@ -102,6 +102,15 @@ constant-valued setting cell meanings (Some (contents.Bool b)) h = (values.Bool 
 constant-valued setting cell meanings (Some (contents.Error e)) h = (values.Error e, refl)
 constant-valued setting cell meanings (Some (contents.Formula tree)) h = absurd (cc)
 
+constant-alike : (earlier later : Setting) (cell : Cell) (one other : Cell → Meaning) (o : Option Content) → has_formula o ≡ false
+    → content_meaning earlier cell one o ≡ content_meaning later cell other o
+constant-alike earlier later cell one other None h = refl
+constant-alike earlier later cell one other (Some (contents.Num n)) h = refl
+constant-alike earlier later cell one other (Some (contents.Text t)) h = refl
+constant-alike earlier later cell one other (Some (contents.Bool b)) h = refl
+constant-alike earlier later cell one other (Some (contents.Error e)) h = refl
+constant-alike earlier later cell one other (Some (contents.Formula tree)) h = absurd (cc)
+
 constant-present : (setting : Setting) (cell : Cell) (meanings : Cell → Meaning) (o : Option Content) (v : Value) → present_by_content o ≡ Some (Some v)
     → content_meaning setting cell meanings o ≡ Val v
 constant-present setting cell meanings None v h = cc
@@ -151,6 +160,13 @@ module _ (book : List (Cell × Content)) (ordered : IsInOrder book) where
   -- a constant means its value
   constant-means : (setting : Setting) (cell : Cell) → is_formula book cell ≡ false → meaning setting book cell ≡ content_meaning setting cell (meaning setting book) (content_at book cell)
   constant-means setting cell constant = meaning-unfolds setting book ordered cell (constant-walks cell constant)
+
+  -- in any setting
+  pub constant-same : (earlier later : Setting) (cell : Cell) → is_formula book cell ≡ false → (v : Value) → meaning earlier book cell ≡ Val v → meaning later book cell ≡ Val v
+  constant-same earlier later cell constant v means =
+      constant-means later cell constant
+      ∙ constant-alike later earlier cell (meaning later book) (meaning earlier book) (content_at book cell) constant
+      ∙ sym (constant-means earlier cell constant) ∙ means
 
   -- a cell that asks has a formula
   pub asks-formula : (setting : Setting) (cell : Cell) → asks_call (meaning setting book cell) ≡ true → is_formula book cell ≡ true

@@ -10,7 +10,7 @@ use Rattle.calc_book.specs.CalcState.{CalcState, calc_begin}
 use Rattle.calc_book.specs.Keeping.{AtRest, InRound, IsAlikeNow, NotesCleanReaders, ReadsInRound, is_forgotten}
 use Rattle.calc_book.specs.declared.calc_books.CalcBook.{CalcBook}
 use Rattle.calc_book.proofs.BeginningLists.{AreAlike, AreWithin, alike-itself, alike-more, forgotten-cells, reaches-more, rest-alike, round-alike, shows-alike, table-alike}
-use Rattle.calc_book.proofs.BeginningMeans.{followed-left, followed-means, formula-some, marked-working, table-readers}
+use Rattle.calc_book.proofs.BeginningMeans.{constant-same, followed-left, followed-means, formula-some, marked-working, table-readers}
 use Rattle.calc_book.proofs.Readings.{begun-reads}
 use Rattle.calc_round.specs.Rounds.{HasRoom, PresentMeans, is_unfinished}
 use Rattle.calc_round.specs.declared.open_work.OpenWork.{OpenWork}
@@ -27,7 +27,7 @@ use Rattle.workbook.specs.declared.commands.BeginKind.{BeginKind}
 use Rattle.workbook.specs.declared.commands.BeginKind.TheVariants as kinds
 use Rattle.workbook.specs.declared.contents.Content.{Content}
 use Rattle.workbook.specs.Agreement.{IsAlikeBesideChanged}
-use Rattle.workbook.specs.Book.{cell_precedents, content_at, formula_cells, formula_count, is_formula}
+use Rattle.workbook.specs.Book.{IsInOrder, cell_precedents, content_at, formula_cells, formula_count, is_formula}
 use Rattle.workbook.specs.Circular.{is_circular}
 use Rattle.workbook.specs.Meaning.{Setting, Val, meaning}
 use Rattle.workbook.specs.Stale.{is_stale, reaches}
@@ -76,10 +76,11 @@ rest-own b s rest =
     subst (λ book. AtRest b (record s { book = book; changed = b.changed.keys })) (sym rest.holds.book)
     (rest-alike b s b.changed.keys (λ q. sym (rest.holds.changed q)) rest)
 
-alike-own : (now : Setting) (b : CalcBook) (s : CalcState) → b.book.contents ≡ s.book → AreAlike b.changed.keys s.changed → IsAlikeNow now s → IsAlikeNow now (own_state b s)
-alike-own now b s is same alike =
-    subst (λ book. IsAlikeNow now (record s { book = book; changed = b.changed.keys })) (sym is)
-    (alike-more s.setting now s.completed s.book s.changed b.changed.keys (λ q h. same q ∙ h) alike)
+alike-own : (now : Setting) (b : CalcBook) (s : CalcState) (keys changed : List Cell) → b.book.contents ≡ s.book → AreAlike keys changed → IsAlikeNow now (record s { changed = changed })
+    → IsAlikeBesideChanged s.setting now s.completed b.book.contents keys
+alike-own now b s keys changed is same alike =
+    subst (λ book. IsAlikeBesideChanged s.setting now s.completed book keys) (sym is)
+    (alike-more s.setting now s.completed s.book changed keys (λ q h. same q ∙ h) alike)
 
 round-of : (now : Setting) (round : ℕ) (b : CalcBook) (s : CalcState) → b.book.contents ≡ s.book → AreAlike b.changed.keys s.changed
     → InRound now round b (own_state b s) → InRound now round b s
@@ -105,7 +106,7 @@ stale_as : (f r : Bool) → (f ≡ true → r ≡ true) → f ≡ (f && r)
 stale_as true r leads = sym (leads refl)
 stale_as false r leads = refl
 
-module _ (setting : Setting) (book : List (Cell × Content)) (entries : List Cell) (mid new : StoreState)
+module _ (earlier later : Setting) (book : List (Cell × Content)) (ordered : IsInOrder book) (entries : List Cell) (mid new : StoreState)
     (cells : (q : Cell) → is_among entries q ≡ is_formula book q)
     (present : (q : Cell) → present_at new q ≡ cond (is_among entries q) (Some None) (present_at mid q)) where
   at_entry : (q : Cell) → is_among entries q ≡ true → present_at new q ≡ Some None
@@ -114,16 +115,16 @@ module _ (setting : Setting) (book : List (Cell × Content)) (entries : List Cel
   off_entry : (q : Cell) → is_among entries q ≡ false → present_at new q ≡ present_at mid q
   off_entry q e = present q ∙ ap (λ a. cond a (Some None) (present_at mid q)) e
 
-  -- where no formula cell has a value, what is present still has its meaning
-  emptied-means : PresentMeans setting book mid → PresentMeans setting book new
+  -- where no formula cell has a value, what is present has its meaning in any setting, as constants mean the same
+  emptied-means : PresentMeans earlier book mid → PresentMeans later book new
   emptied-means means = record {
     content = λ q. elim (is_among entries q) as (λ a. is_among entries q ≡ a → is_some (present_at new q) ≡ is_some (content_at book q)) [
       | true ↦ λ e. ap is_some (at_entry q e) ∙ sym (formula-some (content_at book q) (sym (cells q) ∙ e))
       | false ↦ λ e. ap is_some (off_entry q e) ∙ means.content q
     ] refl;
-    value = λ q v h. elim (is_among entries q) as (λ a. is_among entries q ≡ a → meaning setting book q ≡ Val v) [
+    value = λ q v h. elim (is_among entries q) as (λ a. is_among entries q ≡ a → meaning later book q ≡ Val v) [
       | true ↦ λ e. let no : Some None ≡ Some (Some v) = sym (at_entry q e) ∙ h in cc
-      | false ↦ λ e. means.value q v (sym (off_entry q e) ∙ h)
+      | false ↦ λ e. constant-same book ordered earlier later q (sym (cells q) ∙ e) v (means.value q v (sym (off_entry q e) ∙ h))
     ] refl;
     formula = λ q h. elim (is_among entries q) as (λ a. is_among entries q ≡ a → is_formula book q ≡ true) [
       | true ↦ λ e. sym (cells q) ∙ e
@@ -225,9 +226,9 @@ module _ (b : CalcBook) (s : CalcState) (rest : AtRest b s) where
       dirty-alike : AreAlike b.changed.keys (changed_at_begin kind s.book s.changed)
       dirty-alike q = rest.holds.changed q ∙ ap (λ ks. is_among ks q) (changed-dirty kind is s.book s.changed)
 
-      pub dirty-begun : (now : Setting) (round : ℕ) → IsAlikeNow now s → InRound now round begun_dirty (calc_begin s kind)
+      pub dirty-begun : (now : Setting) (round : ℕ) → IsAlikeNow now (calc_begin s kind) → InRound now round begun_dirty (calc_begin s kind)
       dirty-begun now round alike =
-          let same = alike-own now b s rest.holds.book rest.holds.changed alike in
+          let same = alike-own now b s b.changed.keys (changed_at_begin kind s.book s.changed) rest.holds.book dirty-alike alike in
           round-of now round begun_dirty (calc_begin s kind) rest.holds.book dirty-alike
           (record {
             holds = record {
@@ -255,7 +256,7 @@ module _ (b : CalcBook) (s : CalcState) (rest : AtRest b s) where
             alike = same;
           })
 
-      pub dirty-reads : (now : Setting) (source : SourceState) → IsAlikeNow now s → NotesCleanReaders source (calc_begin s kind) → ReadsInRound now source begun_dirty
+      pub dirty-reads : (now : Setting) (source : SourceState) → IsAlikeNow now (calc_begin s kind) → NotesCleanReaders source (calc_begin s kind) → ReadsInRound now source begun_dirty
       dirty-reads now source alike = begun-reads now zero source begun_dirty (calc_begin s kind) (dirty-begun now zero alike) marked-empty
 
       pub dirty-forgotten : (both : List Cell) → AreBoth marks b.changed.keys both → (q : Cell) → is_among both q ≡ is_forgotten (calc_begin s kind) q
@@ -301,10 +302,10 @@ module _ (b : CalcBook) (s : CalcState) (rest : AtRest b s) where
             (up.clean own.clean q)
       ] refl
 
-      pub all-begun : (now : Setting) (round : ℕ) → IsAlikeNow now s → InRound now round begun_all (calc_begin s kind)
+      pub all-begun : (now : Setting) (round : ℕ) → IsAlikeNow now (calc_begin s kind) → InRound now round begun_all (calc_begin s kind)
       all-begun now round alike =
-          let same = alike-own now b s rest.holds.book rest.holds.changed alike in
-          let there = emptied-means now b.book.contents b.chain.entries store last own.holds.chain all.present (means now same) in
+          let same = alike-own now b s keys.keys (changed_at_begin kind s.book s.changed) rest.holds.book all-alike alike in
+          let there = emptied-means s.setting now b.book.contents own.holds.ordered b.chain.entries store last own.holds.chain all.present own-means in
           round-of now round begun_all (calc_begin s kind) rest.holds.book all-alike
           (record {
             holds = record {
@@ -329,10 +330,10 @@ module _ (b : CalcBook) (s : CalcState) (rest : AtRest b s) where
             idle = idle.due;
             room = room;
             clean = all-clean;
-            alike = alike-more s.setting now s.completed b.book.contents b.changed.keys keys.keys all-within same;
+            alike = same;
           })
 
-      pub all-reads : (now : Setting) (source : SourceState) → IsAlikeNow now s → NotesCleanReaders source (calc_begin s kind) → ReadsInRound now source begun_all
+      pub all-reads : (now : Setting) (source : SourceState) → IsAlikeNow now (calc_begin s kind) → NotesCleanReaders source (calc_begin s kind) → ReadsInRound now source begun_all
       all-reads now source alike = begun-reads now zero source begun_all (calc_begin s kind) (all-begun now zero alike) all-empty
 
       pub all-forgotten : (both : List Cell) → AreBoth after keys.keys both → (q : Cell) → is_among both q ≡ is_forgotten (calc_begin s kind) q

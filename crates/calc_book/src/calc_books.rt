@@ -164,15 +164,16 @@ impl CalcBook {
     pub fn begin(&mut self, kind: BeginKind) -> Result<Vec<Cell>, Memory>
         requires rest { Rests self.old }
 
-        // It runs in any setting in which the cells that reach no changed one stay as they are.
+        // It runs in any setting in which the cells that then reach no changed one stay as they are.
         ensures ok { (s : CalcState) → AtRest self.old s
-            → OnOk result ((now : Setting) (round : ℕ) → IsAlikeNow now s
+            → OnOk result ((now : Setting) (round : ℕ) → IsAlikeNow now (calc_begin s kind)
             → InRound now round self.new (calc_begin s kind)) }
         ensures calls { (s : CalcState) → AtRest self.old s
             → OnOk result (self.new.work.calls.calls ≡ []) }
         ensures reads { (s : CalcState) → AtRest self.old s
-            → OnOk result ((now : Setting) (source : SourceState) → IsAlikeNow now s
-            → NotesCleanReaders source (calc_begin s kind) → ReadsInRound now source self.new) }
+            → OnOk result ((now : Setting) (source : SourceState)
+            → IsAlikeNow now (calc_begin s kind) → NotesCleanReaders source (calc_begin s kind)
+            → ReadsInRound now source self.new) }
         ensures forgotten { (s : CalcState) → AtRest self.old s
             → IfOk result (λ cells. (cell : OneCell)
             → is_among cells.items cell ≡ is_forgotten (calc_begin s kind) cell) }
