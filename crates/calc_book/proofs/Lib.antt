@@ -4,6 +4,7 @@ mod SheetLaws
 mod SettleLaws
 mod Readings
 mod NotingLaws
+mod Samples
 mod AskedCalls
 mod Redeeming
 mod BeginningLists

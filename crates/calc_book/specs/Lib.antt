@@ -5,3 +5,4 @@ pub mod Keeping
 pub mod Edits
 pub mod Begun
 pub mod Calling
+pub mod Samples

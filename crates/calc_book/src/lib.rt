@@ -8,6 +8,8 @@ mod calling;
 mod edits;
 mod evaluating;
 mod noting;
+#[cfg(test)]
+mod tests;
 
 pub use async_handles::{Call, Handle};
 pub use calc_books::CalcBook;
