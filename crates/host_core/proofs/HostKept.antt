@@ -170,13 +170,13 @@ module _ (answer : Answers) (calc : CalcBook) (r : RtdState) (events : Listening
     pub listed_changed : IsRtdState r → (topic : Topic) → is_listed (topics_changed r) topic ≡ is_listed (news answer p) topic
     listed_changed facts topic =
         listed_alike (is_changed r) (λ entry. not (same_value entry.1 (pulled answer p entry))) (λ entry. ap (λ v. not (same_value entry.1 v)) (pulled_alike answer r p false k.rtd entry))
-        r.taken p.taken (keys_apart r.taken facts.taken_once) k.topics.once k.rtd.taken topic
+        r.taken p.taken facts.taken_once k.topics.once k.rtd.taken topic
 
     -- as many are told as it changes
     pub counted_changed : IsRtdState r → length (topics_changed r) ≡ length (news answer p)
     counted_changed facts =
         counted_alike (is_changed r) (λ entry. not (same_value entry.1 (pulled answer p entry))) (λ entry. ap (λ v. not (same_value entry.1 v)) (pulled_alike answer r p false k.rtd entry))
-        r.taken p.taken (keys_apart r.taken facts.taken_once) k.topics.once k.rtd.taken
+        r.taken p.taken facts.taken_once k.topics.once k.rtd.taken
 
     -- a topic that it changes is connected
     changed_connected : (topic : Topic) → is_listed (news answer p) topic ≡ true → is_some (lookup (same_topic topic) p.taken) ≡ true

@@ -432,6 +432,41 @@ fn a_pull_takes_what_flagged_servers_published(rt: HostRuntime) -> Result<(), Fa
 }
 
 #[test]
+fn a_value_that_comes_back_leaves_its_reader_changed(rt: HostRuntime) -> Result<(), Fail> {
+    let steps = &[
+        (Do::Server("px"), Says::Ok),
+        (Do::Server("fx"), Says::Ok),
+        (Do::Publish("px", "a", 5), Says::Ok),
+        (Do::Publish("fx", "a", 7), Says::Ok),
+        (Do::Formula(1, "=RTD(\"px\",\"\",\"a\")"), Says::Ok),
+        (Do::Formula(2, "=RTD(\"fx\",\"\",\"a\")"), Says::Ok),
+        (Do::Begin(BeginKind::Dirty), Says::Begun(1)),
+        (Do::Settle, Says::Done(1, 2)),
+        (Do::Publish("px", "a", 6), Says::Ok),
+        (Do::Publish("fx", "a", 8), Says::Ok),
+        (Do::Throttle(0), Says::Ok),
+        (Do::Notify("px"), Says::Ok),
+        // The other server hasn't told.
+        (Do::Pull(5), Says::Pulled(1)),
+        (Do::Publish("px", "a", 5), Says::Ok),
+        (Do::Notify("px"), Says::Ok),
+        (Do::Pull(4), Says::Pulled(1)),
+        (Do::Begin(BeginKind::Dirty), Says::Begun(2)),
+        (Do::Settle, Says::Done(2, 1)),
+        (Do::Print, Says::Shows(&[(1, Num(5)), (2, Num(7))])),
+        (Do::Throttle(1_000), Says::Ok),
+        (Do::Notify("fx"), Says::Ok),
+        (Do::Pull(3), Says::Early(1_001)),
+        (Do::Pull(1_003), Says::Early(1)),
+        (Do::Pull(1_004), Says::Pulled(1)),
+        (Do::Begin(BeginKind::Dirty), Says::Begun(3)),
+        (Do::Settle, Says::Done(3, 1)),
+        (Do::Print, Says::Shows(&[(1, Num(5)), (2, Num(8))])),
+    ];
+    assert_steps(&rt, rt.alloc(), 100, steps, &[1, 2])
+}
+
+#[test]
 fn a_server_is_seen_by_cells_that_named_it_before(rt: HostRuntime) -> Result<(), Fail> {
     let steps = &[
         (

@@ -1,0 +1,2 @@
+-- What the crate's own functions keep.
+pub mod Keeping
