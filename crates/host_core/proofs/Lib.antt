@@ -3,9 +3,10 @@ pub mod TopicLists
 pub mod WithoutRtd
 pub mod SameValues
 pub mod TopicSteps
-pub mod TopicPull
 pub mod TopicRounds
 pub mod RtdStands
 pub mod HostListeners
 pub mod HostKept
+pub mod Reserved
+pub mod Beginning
 pub mod HostSteps

@@ -18,12 +18,16 @@ pub record HostState : Type 0 where
   -- the answered commands, the oldest first
   pub history : List Entry
 
+-- what add-in functions answer
+abbrev pub Answers : Type 0
+Answers = List ℕ → List Value → Value
+
 -- what is the host's own, where add-in functions answer so
-abbrev pub terms_of : (List ℕ → List Value → Value) → HostState → HostTerms
+abbrev pub terms_of : Answers → HostState → HostTerms
 terms_of answer host = record { session = host.session; limit = host.limit; answer = answer }
 
 -- the state of a host: what evaluation from nothing gives after its history
-abbrev pub state_now : (List ℕ → List Value → Value) → HostState → State
+abbrev pub state_now : Answers → HostState → State
 state_now answer host = state_of (terms_of answer host) host.history
 
 -- the host with one more entry
@@ -32,28 +36,19 @@ with_entry host actor command = record host {
   history = host.history ++ (record { actor = actor; command = command }) ∷ [];
 }
 
--- the commands that a plain desk takes: all but those of asynchronous calls
+-- the commands that a plain desk takes: all
 abbrev pub IsDeskCommand : Command → Type 0
-IsDeskCommand (commands.Set cell content) = Unit {0}
-IsDeskCommand (commands.Clear cell) = Unit {0}
-IsDeskCommand (commands.Register name registration) = ⊥
-IsDeskCommand (commands.Server name) = Unit {0}
-IsDeskCommand (commands.Publish server strings value) = Unit {0}
-IsDeskCommand (commands.Notify name) = Unit {0}
-IsDeskCommand (commands.Throttle interval) = Unit {0}
-IsDeskCommand (commands.Pull moment) = Unit {0}
-IsDeskCommand (commands.Begin kind) = Unit {0}
-IsDeskCommand commands.Settle = Unit {0}
-IsDeskCommand commands.Cancel = Unit {0}
-IsDeskCommand (commands.Return handle value) = ⊥
-IsDeskCommand (commands.Print form) = Unit {0}
-IsDeskCommand (commands.Listen name) = Unit {0}
-IsDeskCommand (commands.Events name) = Unit {0}
+IsDeskCommand command = Unit {0}
 
 -- the commands that act takes: these but Settle
 abbrev pub IsTaken : Command → Type 0
 IsTaken commands.Settle = ⊥
-IsTaken command = IsDeskCommand command
+IsTaken command = Unit {0}
+
+-- the commands that aren't the return of a value
+abbrev pub IsNoReturn : Command → Type 0
+IsNoReturn (commands.Return handle value) = ⊥
+IsNoReturn command = Unit {0}
 
 -- why a command isn't answered: exactly where the history is full, that; else want of memory. It is given back.
 abbrev pub IsActFault : HostState → Command → ActFault → Type 0

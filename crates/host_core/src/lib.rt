@@ -8,6 +8,7 @@ mod listeners;
 mod pulls;
 #[cfg(test)]
 mod random_tests;
+mod returns;
 mod round_books;
 mod rounds;
 #[cfg(test)]
