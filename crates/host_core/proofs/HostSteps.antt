@@ -1,5 +1,6 @@
 -- A book with the number of its recalculation answers as the host for whose state it stands.
-use Rattle.std.proofs.Common.{◌≡◌, ◌⊎◌, inl, inr, ℕ, suc, ◌+◌, Bool, true, false, ◌&&◌, cond, List, [], ◌∷◌, ◌++◌, map, length, nat_lt, Option, None, Some, is_some, Result, Ok, Err, IfOk, OnErr, refl, ap, sym, subst, ◌∙◌, rules}
+use Rattle.std.proofs.Common.{◌≡◌, ◌⊎◌, inl, inr, ℕ, ◌+◌, Bool, true, false, ◌&&◌, cond, List, [], ◌∷◌, ◌++◌, map, length, nat_lt, Option, None, Some, is_some, Result, Ok, Err, IfOk, OnErr, refl, ap, sym, subst, ◌∙◌, rules}
+use native.Mathlib.Numerals.{unary_clauses}
 use Rattle.std.specs.List.{filter, filter_map, list_any}
 use Rattle.std.specs.Option.{option_map_or}
 use Rattle.std.specs.Str.{bytes_eq}
@@ -183,12 +184,12 @@ pub waiting_reply : (s : State) (calls : List Call) → nat_lt 0 (length calls) 
 waiting_reply s [] h = absurd (cc (h))
 waiting_reply s (call ∷ calls) h = refl
 
-some_counted : (n : ℕ) → nat_lt 0 (suc n) ≡ false → ⊥
+some_counted : (n : ℕ) → nat_lt 0 (n + 1) ≡ false → ⊥
 some_counted n h = search (rules)
 
 pub no_calls : (calls : List Call) → nat_lt 0 (length calls) ≡ false → calls ≡ []
 no_calls [] h = refl
-no_calls (call ∷ calls) h = absurd (some_counted (length calls) h)
+no_calls (call ∷ calls) h = absurd (some_counted (length calls) (simp unary_clauses at h))
 
 -- ---- a content for a cell
 module _ (content : Content) where
