@@ -1,6 +1,5 @@
 -- A book with the number of its recalculation answers as the host for whose state it stands.
-use Rattle.std.proofs.Common.{◌≡◌, ◌⊎◌, inl, inr, ℕ, ◌+◌, Bool, true, false, ◌&&◌, cond, List, [], ◌∷◌, ◌++◌, map, length, nat_lt, Option, None, Some, is_some, Result, Ok, Err, IfOk, OnErr, refl, ap, sym, subst, ◌∙◌, rules}
-use native.Mathlib.Numerals.{unary_clauses}
+use Rattle.std.proofs.Common.{◌≡◌, ◌⊎◌, inl, inr, ℕ, ◌+◌, Bool, true, false, ◌&&◌, cond, List, [], ◌∷◌, ◌++◌, map, length, length-append, arith, nat_lt, Option, None, Some, is_some, Result, Ok, Err, IfOk, OnErr, refl, ap, sym, subst, ◌∙◌, rules}
 use Rattle.std.specs.List.{filter, filter_map, list_any}
 use Rattle.std.specs.Option.{option_map_or}
 use Rattle.std.specs.Str.{bytes_eq}
@@ -187,9 +186,13 @@ waiting_reply s (call ∷ calls) h = refl
 some_counted : (n : ℕ) → nat_lt 0 (n + 1) ≡ false → ⊥
 some_counted n h = search (rules)
 
+plus_one : (n : ℕ) → 1 + n ≡ n + 1
+plus_one n = omega arith
+
 pub no_calls : (calls : List Call) → nat_lt 0 (length calls) ≡ false → calls ≡ []
 no_calls [] h = refl
-no_calls (call ∷ calls) h = absurd (some_counted (length calls) (simp unary_clauses at h))
+no_calls (call ∷ calls) h =
+    absurd (some_counted (length calls) (sym (ap (nat_lt 0) (length-append (call ∷ []) calls ∙ plus_one (length calls))) ∙ h))
 
 -- ---- a content for a cell
 module _ (content : Content) where

@@ -20,16 +20,16 @@ pub forget-requires : goal.forget-requires
 forget-requires g c =
     let old = c.args.self.now in
     let q = c.requires.stands in
-    let t = terms_with q.0 q.1 q.2 in
-    is_round t old.calc _ old.events old.log old.round q.3 q.4.noted (kept_at g.S.RtdServer.state q.0 t old q.3 true c.requires.runs q.4)
+    let t = terms_with q.0 q.1.0 q.1.1 in
+    is_round t old.calc _ old.events old.log old.round q.1.2 q.1.3.noted (kept_at g.S.RtdServer.state q.0 t old q.1.2 true c.requires.runs q.1.3)
 
 pub redeem-requires : goal.redeem-requires
 redeem-requires g c =
     let old = c.args.self.now in
     let q = c.requires.stands in
-    let t = terms_with q.0 q.1 q.2 in
-    let kept = kept_at g.S.RtdServer.state q.0 t old q.3 true c.requires.runs q.4 in
-    (setting_of t q.3, old.round, calc_of t q.3 q.4.noted, kept.book)
+    let t = terms_with q.0 q.1.0 q.1.1 in
+    let kept = kept_at g.S.RtdServer.state q.0 t old q.1.2 true c.requires.runs q.1.3 in
+    record { runs = (setting_of t q.1.2, old.round, calc_of t q.1.2 q.1.3.noted, kept.book) }
 
 pub returns-clause-accepted : goal.returns-clause-accepted
 returns-clause-accepted g c answer session limit s stands asked =

@@ -14,19 +14,19 @@ use Rattle.host_core.proofs.round_books.RoundBook.begin.Goals as goal
 pub begin-requires : goal.begin-requires
 begin-requires g c =
     let q = c.requires.stands in
-    let t = terms_with q.0 q.1 q.2 in
-    let kept = kept_at g.S.RtdServer.state q.0 t c.args.self.now q.3 false c.if-self.false q.4 in
-    record { rest = (calc_of t q.3 q.4.noted, kept.book) }
+    let t = terms_with q.0 q.1.0 q.1.1 in
+    let kept = kept_at g.S.RtdServer.state q.0 t c.args.self.now q.1.2 false c.if-self.false q.1.3 in
+    record { rest = (calc_of t q.1.2 q.1.3.noted, kept.book) }
 
 pub begin_round-requires-clause-none : goal.begin_round-requires-clause-none
 begin_round-requires-clause-none g c =
     let q = c.requires.stands in
-    (kept_at g.S.RtdServer.state q.0 (terms_with q.0 q.1 q.2) c.args.self.now q.3 false c.if-self.false q.4).rtd.opening
+    (kept_at g.S.RtdServer.state q.0 (terms_with q.0 q.1.0 q.1.1) c.args.self.now q.1.2 false c.if-self.false q.1.3).rtd.opening
 
 pub begin_round-requires-clause-later : goal.begin_round-requires-clause-later
 begin_round-requires-clause-later g c =
     let q = c.requires.stands in
-    let number = q.4.kept.number in
+    let number = q.1.3.kept.number in
     omega (arith, number)
 
 pub returns-then-self-clause-step : goal.returns-then-self-clause-step

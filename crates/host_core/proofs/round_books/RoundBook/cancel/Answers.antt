@@ -15,9 +15,9 @@ pub cancel_round-requires : goal.cancel_round-requires
 cancel_round-requires g c =
     let old = c.args.self.now in
     let q = c.requires.stands in
-    let t = terms_with q.0 q.1 q.2 in
-    let kept = kept_at g.S.RtdServer.state q.0 t old q.3 true c.if-not-self.false q.4 in
-    is_round t old.calc _ old.events old.log old.round q.3 q.4.noted kept
+    let t = terms_with q.0 q.1.0 q.1.1 in
+    let kept = kept_at g.S.RtdServer.state q.0 t old q.1.2 true c.if-not-self.false q.1.3 in
+    is_round t old.calc _ old.events old.log old.round q.1.2 q.1.3.noted kept
 
 pub returns-then-not-self-clause-step : goal.returns-then-not-self-clause-step
 returns-then-not-self-clause-step g c answer =

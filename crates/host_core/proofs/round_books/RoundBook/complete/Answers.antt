@@ -17,9 +17,9 @@ pub complete_round-requires : goal.complete_round-requires
 complete_round-requires g c =
     let old = c.args.self.now in
     let q = c.requires.stands in
-    let t = terms_with q.0 q.1 q.2 in
-    let kept = kept_at g.S.RtdServer.state q.0 t old q.3 true c.requires.runs q.4 in
-    is_round t old.calc _ old.events old.log old.round q.3 q.4.noted kept
+    let t = terms_with q.0 q.1.0 q.1.1 in
+    let kept = kept_at g.S.RtdServer.state q.0 t old q.1.2 true c.requires.runs q.1.3 in
+    is_round t old.calc _ old.events old.log old.round q.1.2 q.1.3.noted kept
 
 pub fire-requires : goal.fire-requires
 fire-requires g c = c.requires.room
@@ -28,9 +28,9 @@ pub returns-clause-step : goal.returns-clause-step
 returns-clause-step g c answer =
     let old = c.args.self.now in
     let rtd = c.complete_round.ensures in
-    let done = c.complete.ensures in
-    let cells = c.complete.result in
-    settled_step_of g.S.RtdServer.state answer old (record old { calc = c.complete.new.self; rtd = c.complete_round.new.self; events = c.fire.new.self; running = false }) false
+    let done = c.complete-cells.ensures in
+    let cells = c.complete-cells.result in
+    settled_step_of g.S.RtdServer.state answer old (record old { calc = c.complete-cells.new.self; rtd = c.complete_round.new.self; events = c.fire.new.self; running = false }) false
     commands.Settle (replies.Done old.round cells) refl
     (λ session limit s settled.
     let t = terms_with answer session limit in
@@ -41,7 +41,7 @@ returns-clause-step g c answer =
           ∙ ap (replies.Done s.round) (done.count (setting_of t s) old.round calc settled.settled.running ∙ counted_stale s.book.contents settled.noted s.changed kept.changed)
           ∙ ap (reply_to_settle s) (sym (c.requires.asked t s settled))
           ∙ run_reply s kept.runs _;
-      kept = λ clean. kept-done t old.calc _ old.events old.log old.round s settled.noted kept c.complete.new.self _ c.fire.new.self clean
+      kept = λ clean. kept-done t old.calc _ old.events old.log old.round s settled.noted kept c.complete-cells.new.self _ c.fire.new.self clean
           (done.rest (setting_of t s) old.round calc settled.settled c.requires.none)
           (done.read (setting_of t s) old.round calc _ settled.settled c.requires.none (kept.reads refl))
           rtd.servers rtd.published rtd.throttle rtd.taken rtd.opening rtd.readers rtd.round

@@ -13,8 +13,8 @@ use Rattle.host_core.proofs.round_books.RoundBook.take.Goals as goal
 pub prepare_pull-requires : goal.prepare_pull-requires
 prepare_pull-requires g c =
     let q = c.requires.stands in
-    let t = terms_with q.0 q.1 q.2 in
-    (kept_at g.S.RtdServer.state q.0 t c.args.self.now q.3 false c.requires.rests q.4).rtd.opening
+    let t = terms_with q.0 q.1.0 q.1.1 in
+    (kept_at g.S.RtdServer.state q.0 t c.args.self.now q.1.2 false c.requires.rests q.1.3).rtd.opening
 
 pub returns-in_err-news-clause-step : goal.returns-in_err-news-clause-step
 returns-in_err-news-clause-step g c answer =
@@ -46,10 +46,10 @@ pub take_pull-requires-clause-none : goal.take_pull-requires-clause-none
 take_pull-requires-clause-none g c =
     let old = c.args.self.now in
     let q = c.requires.stands in
-    let t = terms_with q.0 q.1 q.2 in
-    let kept = kept_at g.S.RtdServer.state q.0 t old q.3 false c.requires.rests q.4 in
+    let t = terms_with q.0 q.1.0 q.1.1 in
+    let kept = kept_at g.S.RtdServer.state q.0 t old q.1.2 false c.requires.rests q.1.3 in
     let rtd = c.prepare_pull.ensures.same in
-    (kept-same_rtd t old.calc _ old.events old.log old.round q.3 q.4.noted false kept _ rtd.servers rtd.published rtd.throttle rtd.topics).rtd.opening
+    (kept-same_rtd t old.calc _ old.events old.log old.round q.1.2 q.1.3.noted false kept _ rtd.servers rtd.published rtd.throttle rtd.topics).rtd.opening
 
 pub take_pull-requires-clause-prepared : goal.take_pull-requires-clause-prepared
 take_pull-requires-clause-prepared g c = c.in_ok-news.ensures.prepared
