@@ -36,4 +36,4 @@ module _ {S : Type 0} (old mid new : RoundBook S) (numbers : KeepsNumbers old mi
 
 -- the work leaves some state
 pub some_after : {S : Type 0} (state : S → ServerState) (answer : Answers) (old mid : RoundBook S) → KeepsStates state answer old mid → StandsIn state answer old → StandsForSome state mid
-some_after state answer old mid kept q = (answer, q.0, q.1, q.2, kept q.0 q.1 q.2 q.3)
+some_after state answer old mid kept q = (answer, (q.0, q.1, q.2, kept q.0 q.1 q.2 q.3))

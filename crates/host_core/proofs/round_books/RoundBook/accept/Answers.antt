@@ -29,7 +29,7 @@ redeem-requires g c =
     let q = c.requires.stands in
     let t = terms_with q.0 q.1.0 q.1.1 in
     let kept = kept_at g.S.RtdServer.state q.0 t old q.1.2 true c.requires.runs q.1.3 in
-    record { runs = (setting_of t q.1.2, old.round, calc_of t q.1.2 q.1.3.noted, kept.book) }
+    record { runs = (setting_of t q.1.2, old.round, (calc_of t q.1.2 q.1.3.noted, kept.book)) }
 
 pub returns-clause-accepted : goal.returns-clause-accepted
 returns-clause-accepted g c answer session limit s stands asked =
