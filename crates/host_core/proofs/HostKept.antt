@@ -107,23 +107,23 @@ values_kept : (p : AcceptedValue → Bool) (q : Cell → Bool) → ((a : Accepte
 values_kept p q by_cell [] cell site = either_way (q cell) None
 values_kept p q by_cell (a ∷ values) cell site = elim (p a) as (λ b. p a ≡ b
     → accepted_value_at (cond b (a ∷ filter p values) (filter p values)) cell site ≡ cond (q cell) (cond (same_cell a.cell cell && a.site == site) (Some a.value) (accepted_value_at values cell site)) None) [
-  | true ↦ λ e. elim (same_cell a.cell cell) as (λ c. same_cell a.cell cell ≡ c
-      → cond (c && a.site == site) (Some a.value) (accepted_value_at (filter p values) cell site) ≡ cond (q cell) (cond (c && a.site == site) (Some a.value) (accepted_value_at values cell site)) None) [
-    | true ↦ λ same.
-        let passes : q cell ≡ true = ap q (sym (same_cell_is a.cell cell same)) ∙ sym (by_cell a) ∙ e in
-        ap (λ o. cond (a.site == site) (Some a.value) o) (values_kept p q by_cell values cell site ∙ ap (λ b. cond b (accepted_value_at values cell site) None) passes)
-        ∙ sym (ap (λ b. cond b (cond (a.site == site) (Some a.value) (accepted_value_at values cell site)) None) passes)
-    | false ↦ λ other. values_kept p q by_cell values cell site
-  ] refl
-  | false ↦ λ e. values_kept p q by_cell values cell site ∙ elim (same_cell a.cell cell) as (λ c. same_cell a.cell cell ≡ c
-      → cond (q cell) (accepted_value_at values cell site) None ≡ cond (q cell) (cond (c && a.site == site) (Some a.value) (accepted_value_at values cell site)) None) [
-    | true ↦ λ same.
-        let passes : q cell ≡ false = ap q (sym (same_cell_is a.cell cell same)) ∙ sym (by_cell a) ∙ e in
-        ap (λ b. cond b (accepted_value_at values cell site) None) passes
-        ∙ sym (ap (λ b. cond b (cond (a.site == site) (Some a.value) (accepted_value_at values cell site)) None) passes)
-    | false ↦ λ other. refl
-  ] refl
-] refl
+      | true ↦ λ e. elim (same_cell a.cell cell) as (λ c. same_cell a.cell cell ≡ c
+          → cond (c && a.site == site) (Some a.value) (accepted_value_at (filter p values) cell site) ≡ cond (q cell) (cond (c && a.site == site) (Some a.value) (accepted_value_at values cell site)) None) [
+            | true ↦ λ same.
+                let passes : q cell ≡ true = ap q (sym (same_cell_is a.cell cell same)) ∙ sym (by_cell a) ∙ e in
+                ap (λ o. cond (a.site == site) (Some a.value) o) (values_kept p q by_cell values cell site ∙ ap (λ b. cond b (accepted_value_at values cell site) None) passes)
+                ∙ sym (ap (λ b. cond b (cond (a.site == site) (Some a.value) (accepted_value_at values cell site)) None) passes)
+            | false ↦ λ other. values_kept p q by_cell values cell site
+          ] refl
+      | false ↦ λ e. values_kept p q by_cell values cell site ∙ elim (same_cell a.cell cell) as (λ c. same_cell a.cell cell ≡ c
+          → cond (q cell) (accepted_value_at values cell site) None ≡ cond (q cell) (cond (c && a.site == site) (Some a.value) (accepted_value_at values cell site)) None) [
+            | true ↦ λ same.
+                let passes : q cell ≡ false = ap q (sym (same_cell_is a.cell cell same)) ∙ sym (by_cell a) ∙ e in
+                ap (λ b. cond b (accepted_value_at values cell site) None) passes
+                ∙ sym (ap (λ b. cond b (cond (a.site == site) (Some a.value) (accepted_value_at values cell site)) None) passes)
+            | false ↦ λ other. refl
+          ] refl
+    ] refl
 
 module _ (t : HostTerms) (calc : CalcBook) (r : RtdState) (events : Listening) (log : LogParts) (round : ℕ) (s : State) (noted : List Cell) where
   -- ---- at rest
@@ -525,9 +525,9 @@ module _ (t : HostTerms) (calc : CalcBook) (r : RtdState) (events : Listening) (
               ≡ lookup (nat_eq site) (cond (same_cell handle.cell cell) ((handle.site, value) ∷ results_of log cell) (results_of log cell))
           found cell site = elim (same_cell handle.cell cell) as (λ b. cond (b && handle.site == site) (Some value) (accepted_value_at s.accepted cell site)
               ≡ lookup (nat_eq site) (cond b ((handle.site, value) ∷ results_of log cell) (results_of log cell))) [
-            | true ↦ ap (λ b. cond b (Some value) (accepted_value_at s.accepted cell site)) (turned handle.site site) ∙ ap (λ o. cond (nat_eq site handle.site) (Some value) o) (k.accepted cell site)
-            | false ↦ k.accepted cell site
-          ]
+                | true ↦ ap (λ b. cond b (Some value) (accepted_value_at s.accepted cell site)) (turned handle.site site) ∙ ap (λ o. cond (nat_eq site handle.site) (Some value) o) (k.accepted cell site)
+                | false ↦ k.accepted cell site
+              ]
 
   -- ---- at all times
   module _ (running : Bool) (k : Keeps t calc r events log round running s noted) where

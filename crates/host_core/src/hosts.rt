@@ -144,12 +144,7 @@ impl<M: Maker + Drop, F: AddIns + Drop> Host<M, F> {
     }
 
     /// Answers the return of a value, which becomes that of its entry, where it is accepted.
-    fn answer_return(
-        &mut self,
-        actor: u32,
-        handle: Handle,
-        value: Value,
-    ) -> Result<Reply, ActFault>
+    fn answer_return(&mut self, actor: u32, handle: Handle, value: Value) -> Result<Reply, ActFault>
         ensures reply { IfOk result (λ reply. reply ≡ reply_to (terms_of F.answer self.old) []
             (state_now F.answer self.old) (commands.Return handle value)) }
         ensures entry { OnOk result (self.new
