@@ -123,6 +123,14 @@ impl<S: RtdServer + Drop> KnownServer<S> {
         }
     }
 
+    /// Tells the server that it isn't needed any more. A failure changes nothing here.
+    pub fn terminate(&mut self)
+        ensures name { SameName self.old self.new }
+        ensures view { SameView (view_of S.state self.old) (view_of S.state self.new) }
+    {
+        let _ = self.server.server_terminate();
+    }
+
     /// Has the server give its news, and sorts them in. After a refusal what was given is kept.
     pub fn gather(&mut self) -> Result<(), Memory>
         ensures name { SameName self.old self.new }

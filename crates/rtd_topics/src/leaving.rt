@@ -33,6 +33,16 @@ pub fn disconnect_since<S: RtdServer + Drop>(
     }
 }
 
+/// Disconnects all topics of a table, which go by their ids, in the order in which they were connected.
+pub fn disconnect_all<S: RtdServer + Drop>(servers: &mut Vec<KnownServer<S>>, table: &Topics) {
+    for before in 0..table.greatest() {
+        let id = before + 1;
+        if let Some(topic) = table.topic(id) {
+            disconnect(servers, &topic.server, id);
+        }
+    }
+}
+
 /// Takes out the first topic that no cell is kept to read.
 fn pop_unread(table: &mut Topics) -> Option<(Topic, u64)>
     ensures leaves { IfSome result (λ out. Leaves table.old table.new out.0 out.1) }

@@ -56,6 +56,13 @@ fn gather_one<S: RtdServer + Drop>(known: &mut KnownServer<S>) -> Result<(), Mem
     Ok(())
 }
 
+/// Tells all servers that they aren't needed any more.
+pub fn terminate_all<S: RtdServer + Drop>(servers: &mut Vec<KnownServer<S>>) {
+    for known in servers.iter_mut() {
+        known.terminate();
+    }
+}
+
 /// Takes an id out at the server of a name.
 pub fn disconnect<S: RtdServer + Drop>(servers: &mut Vec<KnownServer<S>>, name: &Name, id: u64)
     ensures { DisconnectsAt S.state servers.old.items servers.new.items name.now id }

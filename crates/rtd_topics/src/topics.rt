@@ -7,10 +7,11 @@ ghost use Rattle.cell_values.specs.Topic.{same_topic};
 ghost use Rattle.rtd_topics.specs.Parts.{rtd_of};
 ghost use Rattle.rtd_topics.specs.RtdState.{IsRtdState, RunsNone, RunsRound, SameOpening, SamePublished, SameReaders, SameRtd, SameTopics, TakesRead, due_as, reads_one, rtd_snapshot, topics_changed};
 
-use super::leaving::{disconnect_since, disconnect_unread};
+use super::leaving::{disconnect_all, disconnect_since, disconnect_unread};
 use super::pulls::{changed_ids, note_pull, readers_of, take_all};
 use super::servers::{
     connect_at, copy_texts, gather_all, is_any_flagged, open_all, publish_at, raise_flag,
+    terminate_all,
 };
 use cell_refs::Cell;
 use cell_values::{ErrorKind, Memory, Name, Text, Texts, Topic, Value};
@@ -334,6 +335,26 @@ impl<S: RtdServer + Drop> RtdTopics<S> {
         self.is_running = true;
     }
 
+    /// What a cell has read in the recalculation that runs is forgotten. It takes no memory.
+    pub fn forget(&mut self, cell: Cell)
+        requires { RunsRound (rtd_of S.state self.old) }
+        ensures servers { (rtd_of S.state self.new).servers ≡ (rtd_of S.state self.old).servers }
+        ensures published { SamePublished (rtd_of S.state self.old) (rtd_of S.state self.new) }
+        ensures throttle { (rtd_of S.state self.new).throttle
+            ≡ (rtd_of S.state self.old).throttle }
+        ensures taken { (rtd_of S.state self.new).taken ≡ (rtd_of S.state self.old).taken }
+        ensures opening { (rtd_of S.state self.new).opening ≡ (rtd_of S.state self.old).opening }
+        ensures readers { (topic : OneTopic) (q : OneCell)
+            → (rtd_of S.state self.new).readers topic q
+            ≡ (rtd_of S.state self.old).readers topic q }
+        ensures reading { (topic : OneTopic) (q : OneCell)
+            → (rtd_of S.state self.new).reading topic q
+            ≡ ((rtd_of S.state self.old).reading topic q && not (is_among (cell ∷ []) q)) }
+        ensures round { (rtd_of S.state self.new).round ≡ (rtd_of S.state self.old).round }
+    {
+        self.table.start_round(&[cell]);
+    }
+
     /// The recalculation that runs is completed: what it read is taken, and the other topics are disconnected. It takes
     /// no memory.
     pub fn complete_round(&mut self)
@@ -376,6 +397,13 @@ impl<S: RtdServer + Drop> RtdTopics<S> {
         self.table.drop_round();
         disconnect_since(&mut self.servers, &mut self.table, self.round);
         self.table.facts();
+    }
+
+    /// Disconnects all topics and tells all servers that they aren't needed any more. It takes no memory.
+    pub fn close(self) {
+        let mut servers = self.servers;
+        disconnect_all(&mut servers, &self.table);
+        terminate_all(&mut servers);
     }
 }
 

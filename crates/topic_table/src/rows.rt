@@ -137,6 +137,13 @@ impl Rows {
         Ok(id)
     }
 
+    /// The greatest id that was ever given; 0 where none was.
+    pub fn greatest(&self) -> u64
+        ensures { result ≡ self.now.greatest }
+    {
+        self.greatest
+    }
+
     /// The topic of an id.
     pub fn topic(&self, id: u64) -> Option<&Topic>
         ensures { option_copied result ≡ option_map (λ t. t.topic) (topic_at self.now.topics id) }

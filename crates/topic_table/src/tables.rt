@@ -112,6 +112,13 @@ impl Topics {
         Ok(id)
     }
 
+    /// The greatest id that was ever given; 0 where none was.
+    pub fn greatest(&self) -> u64
+        ensures { result ≡ self.now.greatest }
+    {
+        self.rows.greatest()
+    }
+
     /// The topic of an id.
     pub fn topic(&self, id: u64) -> Option<&Topic>
         ensures { option_copied result
