@@ -1,53 +1,55 @@
--- What is kept of the parts of a host's state is kept of those after each command.
-use Rattle.std.proofs.Common.{◌≡◌, inl, inr, ℤ, pos, negsuc, ℕ, ◌+◌, ◌-◌, ◌<◌, ◌≤◌, arith, Bool, true, false, not, ◌&&◌, ◌||◌, cond, List, [], ◌∷◌, ◌++◌, map, length, Option, Some, None, refl, ap, sym, subst, ◌∙◌, get_or}
-use Rattle.std.specs.BTreeMap.{insert_entry}
-use Rattle.std.specs.List.{AllPairs, IsDistinct, list_any}
-use Rattle.std.specs.Map.{keys_of, lookup, remove_entry}
+-- What is kept of a host's state is kept of the state after each command.
+use Rattle.std.proofs.Common.{◌≡◌, inl, inr, ℤ, pos, negsuc, ℕ, ◌+◌, ◌-◌, ◌<◌, ◌≤◌, ◌==◌, arith, Bool, true, false, not, ◌&&◌, ◌||◌, cond, List, [], ◌∷◌, ◌++◌, map, length, nat_eq, Option, Some, None, refl, ap, sym, subst, ◌∙◌, rules}
+use Rattle.std.specs.List.{filter, list_any}
+use Rattle.std.specs.Map.{lookup}
 use Rattle.std.specs.Option.{is_some, option_map_or}
 use Rattle.std.specs.Str.{bytes_eq}
 use Rattle.std.proofs.lemmas.Bool.{leb-true}
 use Rattle.std.proofs.lemmas.List.Folds.{list_any-append}
-use Rattle.std.proofs.lemmas.Map.Entries.{length-keys_of}
-use Rattle.std.proofs.lemmas.Map.Keys.{IsDistinct-from_apart}
-use Rattle.std.proofs.Math.ListN.{get_or-map}
 use Rattle.calc_events.specs.Listening.{Listening}
 use Rattle.calc_events.specs.Listening as heard
 use Rattle.cell_refs.specs.declared.grid.Cell.{Cell}
-use Rattle.cell_refs.specs.Cell.{cell_cmp, is_among, same_cell}
+use Rattle.cell_refs.specs.declared.handles.Handle.{Handle}
+use Rattle.cell_refs.specs.Cell.{is_among, same_cell}
+use Rattle.cell_refs.proofs.PublicLaws.{same_cell_is}
 use Rattle.cell_values.specs.declared.events.Event.{Event}
+use Rattle.cell_values.specs.declared.events.Event.TheVariants as events_of
 use Rattle.cell_values.specs.declared.topics.Topic.{Topic}
 use Rattle.cell_values.specs.declared.values.Value.{Value}
-use Rattle.cell_values.specs.declared.values.Value.TheVariants as values
 use Rattle.cell_values.specs.SameValue.{same_value}
 use Rattle.cell_values.specs.Topic.{same_topic}
 use Rattle.cell_values.proofs.PublicLaws.{same_topics}
-use Rattle.formula_parse.specs.Tree.{has_rtd_call}
+use Rattle.clean_cells.specs.Keeping.{KeepsClean, opening_topics}
+use Rattle.clean_cells.proofs.PublicLaws.{alike_kept, fresh_unchanged}
+use Rattle.command_log.specs.Log.{LogParts, results_of}
 use Rattle.topic_source.specs.Source.{KeepsValues, SourceState}
 use Rattle.workbook.specs.declared.commands.BeginKind.{BeginKind}
 use Rattle.workbook.specs.declared.commands.BeginKind.TheVariants as kinds
 use Rattle.workbook.specs.declared.commands.Moment.{Moment}
 use Rattle.workbook.specs.declared.commands.Moment.TheVariants as moments
 use Rattle.workbook.specs.declared.contents.Content.{Content}
-use Rattle.workbook.specs.Book.{IsInOrder, content_at, formula_cells}
-use Rattle.workbook.specs.Pulling.{pulled_servers}
-use Rattle.workbook.specs.Reads.{cell_reads, is_listed}
-use Rattle.workbook.specs.State.{HostTerms, KnownServer, Listener, ThrottleState, value_among}
-use Rattle.workbook.specs.Step.{changed_at_begin, formulas_where, listeners_with, servers_with_flag, topics_with}
-use Rattle.workbook.proofs.PublicLaws.{or_false}
+use Rattle.workbook.specs.Agreement.{IsAlikeBesideChanged}
+use Rattle.workbook.specs.Book.{BookState, content_at, formula_cells, has_formula, is_formula}
+use Rattle.workbook.specs.InForm.{IsIntervalInForm, IsMomentInForm}
+use Rattle.workbook.specs.Meaning.{Setting}
+use Rattle.workbook.specs.Pulling.{after_pull, changed_topics, pulled_servers, pulled_throttle, pulled_value, readers_of_topics}
+use Rattle.workbook.specs.Reads.{cell_reads, is_listed, topics_of_cell}
+use Rattle.workbook.specs.Registry.{registration_of}
+use Rattle.workbook.specs.Stale.{is_stale}
+use Rattle.workbook.specs.State.{ThrottleState, AcceptedValue, HostTerms, KnownServer, Listener, State, accepted_value_at, completed_setting, first_state, setting_of, value_among, snapshot_topics}
+use Rattle.workbook.specs.Step.{servers_with_flag, after_begin, after_cancel, after_done, after_return, changed_at_begin, failed_topics, listeners_with, readers_of_failed, topics_with, values_of_clean}
+use Rattle.workbook.proofs.PublicLaws.{formula_cells-has, or_false}
 use Rattle.calc_book.specs.CalcState.{CalcState, calc_begin, calc_note, calc_settle, first_calc}
 use Rattle.calc_book.specs.declared.calc_books.CalcBook.{CalcBook}
-use Rattle.calc_book.specs.Keeping.{Answers, AtRest, Holds, InRound, IsAlikeNow, NotesCleanReaders, NotesReaders, ReadsInRound, is_forgotten}
-use Rattle.workbook.specs.InForm.{IsIntervalInForm, IsMomentInForm}
-use Rattle.host_core.specs.HostKeeping.{Keeps, Recalculates, calc_of, listeners_as}
-use Rattle.host_core.specs.HostParts.{HostParts, first_parts, StandsFor, TopicsHold, is_known, round_setting, shown_setting, values_at}
-use Rattle.rtd_topics.specs.RtdState.{IsMoment, IsRtdState, RtdState, SameOpening, SameReaders, SameTopics, TakesRead, is_changed, reads_one, rtd_snapshot, source_of, standing_of, topics_changed, with_value_pulled}
-use Rattle.calc_round.specs.Rounds.{topic_setting}
+use Rattle.calc_book.specs.Keeping.{AtRest, Holds, InRound, IsAlikeNow, IsSettled, NotesCleanReaders, NotesReaders, ReadsInRound, is_forgotten, setting_over}
+use Rattle.calc_round.specs.Accepting.{DifferAtCell, ForgetsReader}
+use Rattle.host_core.specs.HostKeeping.{AreOfFormulas, HasAccepted, Keeps, Recalculates, StandsFor, calc_of, is_known, listeners_as}
+use Rattle.rtd_topics.specs.RtdState.{IsMoment, IsRtdState, RtdState, SameOpening, SameTopics, TakesRead, is_changed, reads_one, rtd_snapshot, source_of, standing_of, topics_changed, with_value_pulled}
 use Rattle.host_core.proofs.HostListeners.{listeners_fired}
-use Rattle.host_core.proofs.RtdStands.{pulled_alike, rtd-beside, rtd-begun, rtd-cancelled, rtd-done, rtd-edited, rtd-pulled, runs_round, served_is, snapshot_is}
-use Rattle.host_core.proofs.TopicLists.{both_ways, counted_alike, first_of_two, listed-passing, listed_alike, none_distinct, second_of_two}
-use Rattle.host_core.proofs.TopicPull.{news, parts_pulled, pulled, topics-pulled}
-use Rattle.host_core.proofs.TopicRounds.{alike-begun, noted-begun, parts_done, topics-done}
-use Rattle.host_core.proofs.TopicSteps.{among_readers, found_listed, lookup-topics_with, names_with_flag, reader_among, readers_among, some_listed, topics-begun, topics-edited, topics-published, topics-renamed, topics-served}
+use Rattle.host_core.proofs.RtdStands.{opening_same, pulled_alike, rtd-done, rtd-pulled, runs_round, served_is, snapshot_is}
+use Rattle.host_core.proofs.TopicLists.{both_ways, counted_alike, first_of_two, listed-passing, listed_alike, second_of_two}
+use Rattle.host_core.proofs.TopicRounds.{listed_stale, noted-begun, stale_alike}
+use Rattle.host_core.proofs.TopicSteps.{among_readers, found_listed, lookup-topics_with, names_with_flag, reader_among, readers_among, some_listed}
 use mir.Syntax.{w64}
 use mir.Val.{SFits}
 
@@ -74,185 +76,246 @@ unchanged_at_begin kinds.Dirty book cells q h = h
 unchanged_at_begin kinds.All book cells q h = unchanged_before (formula_cells book) cells q h
 unchanged_at_begin kinds.Rebuild book cells q h = unchanged_before (formula_cells book) cells q h
 
--- topics that differ in pairs differ
-keys_apart : (es : List (Topic × Value)) → AllPairs (λ (a b : Topic × Value). same_topic a.0 b.0 ≡ false) es → IsDistinct same_topic (keys_of es)
-keys_apart es apart = IsDistinct-from_apart same_topic (keys_of es) (λ i j d before below.
-    let d' : Topic × Value = (d, values.Blank) in
-    let short : j < length es = subst (λ n. j < n) (length-keys_of es) below in
-    ap (λ k. same_topic k (get_or (keys_of es) j d)) (key_at es i d') ∙ ap (λ k. same_topic (get_or es i d').0 k) (key_at es j d') ∙ apart i j d' before short)
-  where
-    key_at : (es : List (Topic × Value)) (i : ℕ) (d : Topic × Value) → get_or (keys_of es) i d.0 ≡ (get_or es i d).0
-    key_at es i d = get_or-map (λ (e : Topic × Value). e.0) es i d
-
 -- ---- readers that were noted, with another source that gives the same
-pub reads_between : (answer : Answers) (calc : CalcBook) (source other : SourceState)
-    → ((topic : Topic) → other.snapshot topic ≡ source.snapshot topic) → ((topic : Topic) → other.is_served topic ≡ source.is_served topic)
+pub reads_between : (now : Setting) (calc : CalcBook) (source other : SourceState)
+    → ((topic : Topic) → other.is_served topic ≡ source.is_served topic)
     → ((topic : Topic) (cell : Cell) → other.has_read topic cell ≡ source.has_read topic cell)
-    → ReadsInRound answer source calc → ReadsInRound answer other calc
-reads_between answer calc source other same_snapshot same_served same_read h =
-    let snapshots : other.snapshot ≡ source.snapshot = λ i topic. same_snapshot topic i in record {
-      sound = λ topic cell noted. ap (λ snapshot. cell_reads (topic_setting answer snapshot) calc.book.contents cell topic) snapshots ∙ h.sound topic cell (sym (same_read topic cell) ∙ noted);
-      served = λ topic cell noted. same_served topic ∙ h.served topic cell (sym (same_read topic cell) ∙ noted);
-      complete = λ topic cell v found reads served.
-          same_read topic cell
-          ∙ h.complete topic cell v found
-          (sym (ap (λ snapshot. cell_reads (topic_setting answer snapshot) calc.book.contents cell topic) snapshots) ∙ reads)
-          (sym (same_served topic) ∙ served);
-    }
+    → ReadsInRound now source calc → ReadsInRound now other calc
+reads_between now calc source other same_served same_read h = record {
+  sound = λ topic cell noted. h.sound topic cell (sym (same_read topic cell) ∙ noted);
+  served = λ topic cell noted. same_served topic ∙ h.served topic cell (sym (same_read topic cell) ∙ noted);
+  complete = λ topic cell v found reads served. same_read topic cell ∙ h.complete topic cell v found reads (sym (same_served topic) ∙ served);
+}
 
-module _ (answer : Answers) (calc : CalcBook) (r : RtdState) (events : Listening) (round : ℕ) (p : HostParts) (noted : List Cell) where
+-- what is alike beside changed cells is so beside those of another list
+pub alike_noted : (earlier later : Setting) (before now : List (Cell × Content)) (changed others : List Cell) → ((q : Cell) → is_among others q ≡ is_among changed q)
+    → IsAlikeBesideChanged earlier later before now changed → IsAlikeBesideChanged earlier later before now others
+alike_noted earlier later before now changed others same alike = record {
+  contents = λ q unchanged. alike.contents q (sym (same q) ∙ unchanged);
+  answer = alike.answer;
+  formulas = λ q tree is fresh. alike.formulas q tree is (sym (stale_alike now others changed same q) ∙ fresh);
+}
+
+-- ---- accepted values
+either_way : (b : Bool) (o : Option Value) → o ≡ cond b o o
+either_way true o = refl
+either_way false o = refl
+
+-- those of the cells that pass
+values_kept : (p : AcceptedValue → Bool) (q : Cell → Bool) → ((a : AcceptedValue) → p a ≡ q a.cell) → (values : List AcceptedValue) (cell : Cell) (site : ℕ)
+    → accepted_value_at (filter p values) cell site ≡ cond (q cell) (accepted_value_at values cell site) None
+values_kept p q by_cell [] cell site = either_way (q cell) None
+values_kept p q by_cell (a ∷ values) cell site = elim (p a) as (λ b. p a ≡ b
+    → accepted_value_at (cond b (a ∷ filter p values) (filter p values)) cell site ≡ cond (q cell) (cond (same_cell a.cell cell && a.site == site) (Some a.value) (accepted_value_at values cell site)) None) [
+      | true ↦ λ e. elim (same_cell a.cell cell) as (λ c. same_cell a.cell cell ≡ c
+          → cond (c && a.site == site) (Some a.value) (accepted_value_at (filter p values) cell site) ≡ cond (q cell) (cond (c && a.site == site) (Some a.value) (accepted_value_at values cell site)) None) [
+            | true ↦ λ same.
+                let passes : q cell ≡ true = ap q (sym (same_cell_is a.cell cell same)) ∙ sym (by_cell a) ∙ e in
+                ap (λ o. cond (a.site == site) (Some a.value) o) (values_kept p q by_cell values cell site ∙ ap (λ b. cond b (accepted_value_at values cell site) None) passes)
+                ∙ sym (ap (λ b. cond b (cond (a.site == site) (Some a.value) (accepted_value_at values cell site)) None) passes)
+            | false ↦ λ other. values_kept p q by_cell values cell site
+          ] refl
+      | false ↦ λ e. values_kept p q by_cell values cell site ∙ elim (same_cell a.cell cell) as (λ c. same_cell a.cell cell ≡ c
+          → cond (q cell) (accepted_value_at values cell site) None ≡ cond (q cell) (cond (c && a.site == site) (Some a.value) (accepted_value_at values cell site)) None) [
+            | true ↦ λ same.
+                let passes : q cell ≡ false = ap q (sym (same_cell_is a.cell cell same)) ∙ sym (by_cell a) ∙ e in
+                ap (λ b. cond b (accepted_value_at values cell site) None) passes
+                ∙ sym (ap (λ b. cond b (cond (a.site == site) (Some a.value) (accepted_value_at values cell site)) None) passes)
+            | false ↦ λ other. refl
+          ] refl
+    ] refl
+
+module _ (t : HostTerms) (calc : CalcBook) (r : RtdState) (events : Listening) (log : LogParts) (round : ℕ) (s : State) (noted : List Cell) where
   -- ---- at rest
-  module _ (k : Keeps answer calc r events round false p noted) where
-    -- where nothing is changed now, the contents are those of the last completed recalculation
-    others : (cell : Cell) → is_among p.changed cell ≡ false → content_at p.completed cell ≡ content_at p.book cell
-    others cell unchanged = k.book.others cell (k.changed cell ∙ unchanged)
+  module _ (k : Keeps t calc r events log round false s noted) where
+    -- none runs
+    pub none_runs : s.running ≡ None
+    none_runs = by_some s.running k.runs
+      where
+        by_some : {X : Type 0} (o : Option X) → is_some o ≡ false → o ≡ None
+        by_some None h = refl
+        by_some (Some x) h = absurd (cc (h))
 
-    -- another book that stands for the same parts
-    pub kept-book : (after : CalcBook) → AtRest answer after (calc_of p noted) → Keeps answer after r events round false p noted
+    -- another book that stands for the same state
+    pub kept-book : (after : CalcBook) → AtRest after (calc_of t s noted) → Keeps t after r events log round false s noted
     kept-book after rest = record {
-      topics = k.topics;
+      clean = k.clean;
+      runs = k.runs;
+      numbered = k.numbered;
       changed = k.changed;
       book = rest;
       rtd = k.rtd;
       reads = λ runs. absurd (cc (runs));
       number = k.number;
+      accepted = k.accepted;
+      formulas = k.formulas;
       listeners = k.listeners;
+    }
+
+    -- a later state in which more cells are changed
+    pub kept-rest : (after : CalcBook) (rtd : RtdState) (later : State) (more cells : List Cell) → KeepsClean t later → later.running ≡ s.running → later.round ≡ s.round
+        → later.changed ≡ more ++ s.changed → ((q : Cell) → is_among cells q ≡ is_among more q) → later.accepted ≡ s.accepted → later.completed ≡ s.completed → later.listeners ≡ s.listeners
+        → AtRest after (calc_of t later (cells ++ noted)) → StandsFor t (standing_of rtd) later false → rtd.round ≡ r.round
+        → Keeps t after rtd events log round false later (cells ++ noted)
+    kept-rest after rtd later more cells clean running number changed told accepted completed listeners rest stands rounds = record {
+      clean = clean;
+      runs = ap is_some running ∙ k.runs;
+      numbered = number ∙ k.numbered;
+      changed = λ q. among_more cells more noted s.changed told k.changed q ∙ ap (λ all. is_among all q) (sym changed);
+      book = rest;
+      rtd = stands;
+      reads = λ runs. absurd (cc (runs));
+      number = rounds ∙ k.number;
+      accepted = λ cell site. ap (λ values. accepted_value_at values cell site) accepted ∙ k.accepted cell site;
+      formulas = λ cell site none unchanged.
+          ap (λ values. accepted_value_at values cell site) accepted
+          ∙ k.formulas cell site (ap (λ c. is_formula c.book.contents cell) (sym completed) ∙ none)
+          (unchanged_before more s.changed cell (ap (λ all. is_among all cell) (sym changed) ∙ unchanged));
+      listeners = listeners ∙ k.listeners;
     }
 
     -- an edit
-    pub kept-edited : (after : CalcBook) (book : List (Cell × Content)) (cell : Cell)
-        → AtRest answer after (record (calc_of p noted) { book = book; changed = cell ∷ noted })
-        → Keeps answer after r events round false (record p { book = book; changed = cell ∷ p.changed }) (cell ∷ noted)
-    kept-edited after book cell rest = record {
-      topics = topics-edited answer p k.topics book (cell ∷ p.changed) (λ q unchanged. (or_false (same_cell q cell) (is_among p.changed q) unchanged).1);
-      changed = among_one noted p.changed cell k.changed;
-      book = rest;
-      rtd = rtd-edited answer r p false book (cell ∷ p.changed) p.listeners k.rtd;
-      reads = λ runs. absurd (cc (runs));
-      number = k.number;
-      listeners = k.listeners;
-    }
+    pub kept-edited : (after : CalcBook) (book : BookState) (more : List Cell) → let later : State = record s { book = book; changed = more ++ s.changed } in
+        KeepsClean t later → AtRest after (calc_of t later (more ++ noted)) → Keeps t after r events log round false later (more ++ noted)
+    kept-edited after book more clean rest =
+        kept-rest after r (record s { book = book; changed = more ++ s.changed }) more more clean refl refl refl (λ q. refl) refl refl refl rest
+        (record {
+          servers = k.rtd.servers;
+          published = k.rtd.published;
+          taken = k.rtd.taken;
+          throttle = k.rtd.throttle;
+          opening = k.rtd.opening;
+          readers = k.rtd.readers;
+        }) refl
 
-    -- a server
-    pub kept-served : (after : CalcBook) (rtd : RtdState) (name : List ℕ)
-        → AtRest answer after (calc_note (calc_of p noted) (formulas_where p.book has_rtd_call))
-        → rtd.servers ≡ r.servers ++ (record { name = name; flag = false }) ∷ [] → ((topic : Topic) → rtd.published topic ≡ r.published topic) → rtd.throttle ≡ r.throttle → SameTopics r rtd
-        → Keeps answer after rtd events round false (record p { servers = p.servers ++ (record { name = name; flag = false }) ∷ []; changed = formulas_where p.book has_rtd_call ++ p.changed })
-        (formulas_where p.book has_rtd_call ++ noted)
-    kept-served after rtd name rest servers published throttle same =
-        let server : KnownServer = record { name = name; flag = false } in
-        let changed = formulas_where p.book has_rtd_call ++ p.changed in record {
-          topics = topics-served answer p k.topics server k.book.holds.ordered others;
-          changed = among_more (formulas_where p.book has_rtd_call) (formulas_where p.book has_rtd_call) noted p.changed (λ q. refl) k.changed;
-          book = rest;
-          rtd = rtd-beside answer r p rtd false (p.servers ++ server ∷ []) p.published p.throttle changed same
-              (servers ∙ ap (λ all. all ++ server ∷ []) k.rtd.servers) (λ topic. published topic ∙ k.rtd.published topic) (throttle ∙ k.rtd.throttle) k.rtd;
-          reads = λ runs. absurd (cc (runs));
-          number = same.round ∙ k.number;
-          listeners = k.listeners;
-        }
-
-    -- another throttle
-    pub kept-paced : (rtd : RtdState) (throttle : ThrottleState) → rtd.servers ≡ r.servers → ((topic : Topic) → rtd.published topic ≡ r.published topic) → rtd.throttle ≡ throttle → SameTopics r rtd
-        → Keeps answer calc rtd events round false (record p { throttle = throttle }) noted
-    kept-paced rtd throttle servers published paced same = record {
-      topics = record { once = k.topics.once; published = k.topics.published; taken = k.topics.taken; opening = k.topics.opening; seen = k.topics.seen };
-      changed = k.changed;
-      book = k.book;
-      rtd = rtd-beside answer r p rtd false p.servers p.published throttle p.changed same (servers ∙ k.rtd.servers) (λ topic. published topic ∙ k.rtd.published topic) paced k.rtd;
-      reads = λ runs. absurd (cc (runs));
-      number = same.round ∙ k.number;
-      listeners = k.listeners;
-    }
+    -- servers, what is published, and the throttle change, and more cells are
+    pub kept-paced : (after : CalcBook) (rtd : RtdState) (servers : List KnownServer) (throttle : ThrottleState) (more : List Cell)
+        → let later : State = record s { servers = servers; throttle = throttle; changed = more ++ s.changed } in
+        KeepsClean t later → AtRest after (calc_of t later (more ++ noted)) → rtd.servers ≡ servers → ((topic : Topic) → rtd.published topic ≡ r.published topic) → rtd.throttle ≡ throttle → SameTopics r rtd
+        → Keeps t after rtd events log round false later (more ++ noted)
+    kept-paced after rtd servers throttle more clean rest same_servers same_published same_throttle same =
+        kept-rest after rtd (record s { servers = servers; throttle = throttle; changed = more ++ s.changed }) more more clean refl refl refl (λ q. refl) refl refl refl rest
+        (record {
+          servers = same_servers;
+          published = λ topic. same_published topic ∙ k.rtd.published topic;
+          taken = λ topic. ap (lookup (same_topic topic)) same.taken ∙ k.rtd.taken topic;
+          throttle = same_throttle;
+          opening = opening_same r.opening rtd.opening false (opening_topics s) same.opening k.rtd.opening;
+          readers = λ topic cell. same.read.readers topic cell ∙ k.rtd.readers topic cell;
+        }) same.round
 
     -- ---- a pull
     -- the topics that it changes
-    pub listed_changed : IsRtdState r → (topic : Topic) → is_listed (topics_changed r) topic ≡ is_listed (news answer p) topic
+    abbrev news : List Topic
+    news = changed_topics s.servers [] s.published s.taken
+
+    abbrev pulled : Topic × Value → Value
+    pulled = pulled_value s.servers [] s.published
+
+    abbrev was : Setting
+    was = completed_setting t s
+
+    abbrev before : List (Cell × Content)
+    before = s.completed.book.contents
+
+    listed_changed : IsRtdState r → (topic : Topic) → is_listed (topics_changed r) topic ≡ is_listed news topic
     listed_changed facts topic =
-        listed_alike (is_changed r) (λ entry. not (same_value entry.1 (pulled answer p entry))) (λ entry. ap (λ v. not (same_value entry.1 v)) (pulled_alike answer r p false k.rtd entry))
-        r.taken p.taken facts.taken_once k.topics.once k.rtd.taken topic
+        listed_alike (is_changed r) (λ entry. not (same_value entry.1 (pulled entry))) (λ entry. ap (λ v. not (same_value entry.1 v)) (pulled_alike t r s false k.rtd entry))
+        r.taken s.taken facts.taken_once k.clean.once k.rtd.taken topic
 
     -- as many are told as it changes
-    pub counted_changed : IsRtdState r → length (topics_changed r) ≡ length (news answer p)
+    pub counted_changed : IsRtdState r → length (topics_changed r) ≡ length (changed_topics s.servers [] s.published s.taken)
     counted_changed facts =
-        counted_alike (is_changed r) (λ entry. not (same_value entry.1 (pulled answer p entry))) (λ entry. ap (λ v. not (same_value entry.1 v)) (pulled_alike answer r p false k.rtd entry))
-        r.taken p.taken facts.taken_once k.topics.once k.rtd.taken
+        counted_alike (is_changed r) (λ entry. not (same_value entry.1 (pulled entry))) (λ entry. ap (λ v. not (same_value entry.1 v)) (pulled_alike t r s false k.rtd entry))
+        r.taken s.taken facts.taken_once k.clean.once k.rtd.taken
 
     -- a topic that it changes is connected
-    changed_connected : (topic : Topic) → is_listed (news answer p) topic ≡ true → is_some (lookup (same_topic topic) p.taken) ≡ true
-    changed_connected topic listed = by_found (lookup (same_topic topic) p.taken) (sym (listed-passing (λ entry. not (same_value entry.1 (pulled answer p entry))) p.taken k.topics.once topic) ∙ listed)
+    changed_connected : (topic : Topic) → is_listed news topic ≡ true → is_some (lookup (same_topic topic) s.taken) ≡ true
+    changed_connected topic listed = by_found (lookup (same_topic topic) s.taken) (sym (listed-passing (λ entry. not (same_value entry.1 (pulled entry))) s.taken k.clean.once topic) ∙ listed)
       where
-        by_found : (o : Option Value) → option_map_or (λ v. not (same_value v (pulled answer p (topic, v)))) o false ≡ true → is_some o ≡ true
+        by_found : (o : Option Value) → option_map_or (λ v. not (same_value v (pulled (topic, v)))) o false ≡ true → is_some o ≡ true
         by_found None h = h
         by_found (Some v) h = refl
 
     -- the readers that are told are those that it changes
-    pub readers_told : IsRtdState r → (cell : Cell) → reads_one r (topics_changed r) cell ≡ is_among (readers_among (shown_setting answer p) p.completed (news answer p)) cell
-    readers_told facts cell = both_ways (reads_one r (topics_changed r) cell) (is_among (readers_among (shown_setting answer p) p.completed (news answer p)) cell) there back
+    pub readers_told : IsRtdState r → (cell : Cell) → reads_one r (topics_changed r) cell ≡ is_among (readers_of_topics t s (changed_topics s.servers [] s.published s.taken)) cell
+    readers_told facts cell = both_ways (reads_one r (topics_changed r) cell) (is_among (readers_among was before news) cell) there back
       where
-        there : reads_one r (topics_changed r) cell ≡ true → is_among (readers_among (shown_setting answer p) p.completed (news answer p)) cell ≡ true
+        there : reads_one r (topics_changed r) cell ≡ true → is_among (readers_among was before news) cell ≡ true
         there h =
             let found = found_listed (λ topic. r.readers topic cell) (topics_changed r) h in
-            reader_among (shown_setting answer p) p.completed k.book.holds.completed (news answer p) cell found.0
-            (second_of_two (is_some (lookup (same_topic found.0) p.taken)) (cell_reads (shown_setting answer p) p.completed cell found.0) (sym (k.rtd.readers found.0 cell) ∙ found.2))
+            reader_among was before k.clean.completed_ordered news cell found.0
+            (second_of_two (is_some (lookup (same_topic found.0) s.taken)) (cell_reads was before cell found.0) (sym (k.rtd.readers found.0 cell) ∙ found.2))
             (sym (listed_changed facts found.0) ∙ found.1)
 
-        back : is_among (readers_among (shown_setting answer p) p.completed (news answer p)) cell ≡ true → reads_one r (topics_changed r) cell ≡ true
+        back : is_among (readers_among was before news) cell ≡ true → reads_one r (topics_changed r) cell ≡ true
         back h =
-            let found = among_readers (shown_setting answer p) p.completed k.book.holds.completed (news answer p) cell h in
+            let found = among_readers was before k.clean.completed_ordered news cell h in
             some_listed (λ topic. r.readers topic cell) (topics_changed r) found.0 (listed_changed facts found.0 ∙ found.2)
             (k.rtd.readers found.0 cell
-            ∙ ap (λ b. b && cell_reads (shown_setting answer p) p.completed cell found.0) (changed_connected found.0 found.2)
+            ∙ ap (λ b. b && cell_reads was before cell found.0) (changed_connected found.0 found.2)
             ∙ found.1)
 
-    pub kept-pulled : (after : CalcBook) (rtd : RtdState) (cells : List Cell) (throttle : ThrottleState)
-        → ((cell : Cell) → is_among cells cell ≡ is_among (readers_among (shown_setting answer p) p.completed (news answer p)) cell) → AtRest answer after (calc_note (calc_of p noted) cells)
-        → rtd.servers ≡ pulled_servers r.servers [] → ((topic : Topic) → rtd.published topic ≡ r.published topic) → rtd.throttle ≡ throttle
-        → rtd.taken ≡ with_value_pulled r r.taken → rtd.opening ≡ None → SameReaders r rtd → rtd.round ≡ r.round
-        → Keeps answer after rtd events round false (parts_pulled answer p throttle) (cells ++ noted)
-    kept-pulled after rtd cells throttle told rest servers published paced taken none read same_round = record {
-      topics = topics-pulled answer p k.topics k.book.holds.completed throttle;
-      changed = among_more cells (readers_among (shown_setting answer p) p.completed (news answer p)) noted p.changed told k.changed;
-      book = rest;
-      rtd = rtd-pulled answer r p rtd throttle servers published paced taken none read k.rtd;
-      reads = λ runs. absurd (cc (runs));
-      number = same_round ∙ k.number;
-      listeners = k.listeners;
-    }
+    pub kept-pulled : (after : CalcBook) (rtd : RtdState) (moment : Moment) (cells : List Cell) → KeepsClean t (after_pull t [] s moment)
+        → ((cell : Cell) → is_among cells cell ≡ is_among (readers_of_topics t s (changed_topics s.servers [] s.published s.taken)) cell) → AtRest after (calc_note (calc_of t s noted) cells)
+        → rtd.servers ≡ pulled_servers r.servers [] → ((topic : Topic) → rtd.published topic ≡ r.published topic) → rtd.throttle ≡ pulled_throttle s.throttle moment
+        → rtd.taken ≡ with_value_pulled r r.taken → rtd.opening ≡ None → ((topic : Topic) (cell : Cell) → rtd.readers topic cell ≡ r.readers topic cell) → rtd.round ≡ r.round
+        → Keeps t after rtd events log round false (after_pull t [] s moment) (cells ++ noted)
+    kept-pulled after rtd moment cells clean told rest servers published throttle taken none read same_round =
+        kept-rest after rtd (after_pull t [] s moment) (readers_of_topics t s (changed_topics s.servers [] s.published s.taken)) cells clean refl refl refl told refl refl refl rest
+        (rtd-pulled t r s rtd moment servers published throttle taken none read k.rtd) same_round
 
     -- ---- a begin
-    -- all is alike beside what is changed
-    pub alike_now : IsAlikeNow answer (values_at p p.published) (calc_of p noted)
-    alike_now = alike-begun answer p k.topics noted k.changed k.book.others
+    -- all is alike beside what it changes
+    pub alike_begun : (kind : BeginKind) → KeepsClean t (after_begin s kind) → IsAlikeNow (setting_of t (after_begin s kind)) (calc_begin (calc_of t s noted) kind)
+    alike_begun kind clean =
+        alike_noted (completed_setting t s) (setting_of t (after_begin s kind)) s.completed.book.contents s.book.contents (changed_at_begin kind s.book.contents s.changed) (changed_at_begin kind s.book.contents noted)
+        (begun_alike kind s.book.contents noted s.changed k.changed) (alike_kept t (after_begin s kind) clean)
 
-    pub kept-begun : (kind : BeginKind) (after : CalcBook) (rtd : RtdState) (cells : List Cell)
-        → ((now : Topic → Value) → IsAlikeNow answer now (calc_of p noted) → InRound answer now after (calc_begin (calc_of p noted) kind))
-        → ((source : SourceState) → IsAlikeNow answer source.snapshot (calc_of p noted) → NotesCleanReaders answer source (calc_begin (calc_of p noted) kind) → ReadsInRound answer source after)
-        → ((cell : Cell) → is_among cells cell ≡ is_forgotten (calc_begin (calc_of p noted) kind) cell)
+    pub kept-begun : (kind : BeginKind) (after : CalcBook) (rtd : RtdState) (cells : List Cell) (logged : LogParts) → KeepsClean t (after_begin s kind)
+        → InRound (setting_of t (after_begin s kind)) (round + 1) after (calc_begin (calc_of t s noted) kind)
+        → ((source : SourceState) → NotesCleanReaders source (calc_begin (calc_of t s noted) kind) → ReadsInRound (setting_of t (after_begin s kind)) source after)
+        → ((cell : Cell) → is_among cells cell ≡ is_forgotten (calc_begin (calc_of t s noted) kind) cell)
         → rtd.servers ≡ r.servers → ((topic : Topic) → rtd.published topic ≡ r.published topic) → rtd.throttle ≡ r.throttle → rtd.taken ≡ r.taken
         → SameOpening (Some r.published) rtd.opening → ((topic : Topic) (cell : Cell) → rtd.readers topic cell ≡ r.readers topic cell)
         → ((topic : Topic) (cell : Cell) → rtd.reading topic cell ≡ (r.readers topic cell && not (is_among cells cell))) → rtd.round ≡ round + 1
-        → Keeps answer after rtd events (round + 1) true (record p { changed = changed_at_begin kind p.book p.changed; opening = p.published }) (changed_at_begin kind p.book noted)
-    kept-begun kind after rtd cells runs reads forgotten servers published throttle taken opened readers reading number =
-        let begun : HostParts = record p { changed = changed_at_begin kind p.book p.changed; opening = p.published } in
-        let stands : StandsFor answer (standing_of rtd) begun true = rtd-begun answer r p rtd (changed_at_begin kind p.book p.changed) servers published throttle taken opened readers k.rtd in
-        let snapshots : values_at p p.published ≡ rtd_snapshot rtd = λ i topic. sym (snapshot_is answer rtd begun stands topic) i in record {
-          topics = topics-begun answer p k.topics (changed_at_begin kind p.book p.changed) (unchanged_at_begin kind p.book p.changed);
-          changed = begun_alike kind p.book noted p.changed k.changed;
-          book = runs (values_at p p.published) alike_now;
-          rtd = stands;
-          reads = λ _. reads (source_of rtd) (subst (λ now. IsAlikeNow answer now (calc_of p noted)) snapshots alike_now) (λ topic cell.
-              let stays = not (is_forgotten (calc_begin (calc_of p noted) kind) cell) in
-              reading topic cell
-              ∙ ap (λ b. r.readers topic cell && not b) (forgotten cell)
-              ∙ ap (λ b. b && stays) (k.rtd.readers topic cell)
-              ∙ noted-begun answer p k.topics noted k.changed topic cell stays (kept_unchanged cell)
-              ∙ ap (λ b. (b && cell_reads (shown_setting answer p) p.completed cell topic) && stays) (sym (served_is answer rtd begun stands topic))
-              ∙ ap (λ b. b && stays) (turned (is_some rtd.opening && is_known rtd.servers topic.server) (cell_reads (shown_setting answer p) p.completed cell topic)));
-          number = number;
-          listeners = k.listeners;
-        }
+        → ((cell : Cell) → results_of logged cell ≡ cond (is_among cells cell) [] (results_of log cell))
+        → Keeps t after rtd events logged (round + 1) true (after_begin s kind) (changed_at_begin kind s.book.contents noted)
+    kept-begun kind after rtd cells logged clean runs reads forgotten servers published throttle taken opened readers reading number results = record {
+      clean = clean;
+      runs = refl;
+      numbered = ap (λ n. n + 1) k.numbered;
+      changed = begun_alike kind s.book.contents noted s.changed k.changed;
+      book = runs;
+      rtd = stands;
+      reads = λ _. reads (source_of rtd) (λ topic cell.
+          let stays = not (is_forgotten (calc_begin (calc_of t s noted) kind) cell) in
+          reading topic cell
+          ∙ ap (λ b. r.readers topic cell && not b) (forgotten cell)
+          ∙ ap (λ b. b && stays) (k.rtd.readers topic cell)
+          ∙ noted-begun t s k.clean topic cell stays (kept_unchanged cell)
+          ∙ ap (λ b. (b && cell_reads was before cell topic) && stays) (sym (served_is t rtd (after_begin s kind) stands topic))
+          ∙ ap (λ b. b && stays) (turned (is_some rtd.opening && is_known rtd.servers topic.server) (cell_reads was before cell topic)));
+      number = number;
+      accepted = λ cell site. values_begun cell site ∙ by_formula cell site ∙ sym (ap (lookup (nat_eq site)) (results cell ∙ ap (λ b. cond b [] (results_of log cell)) (forgotten cell)));
+      formulas = λ cell site none.
+          values_begun cell site ∙ ap (λ b. cond (b && not (is_stale s.book.contents now_changed cell)) (accepted_value_at s.accepted cell site) None) (formula_cells-has s.book.contents k.clean.ordered cell ∙ none);
+      listeners = k.listeners;
+    }
       where
+        now_changed : List Cell
+        now_changed = changed_at_begin kind s.book.contents s.changed
+
+        stands : StandsFor t (standing_of rtd) (after_begin s kind) true
+        stands = record {
+          servers = servers ∙ k.rtd.servers;
+          published = λ topic. published topic ∙ k.rtd.published topic;
+          taken = λ topic. ap (lookup (same_topic topic)) taken ∙ k.rtd.taken topic;
+          throttle = throttle ∙ k.rtd.throttle;
+          opening = opening_same (Some r.published) rtd.opening true s.published opened (r.published, refl, k.rtd.published);
+          readers = λ topic cell. readers topic cell ∙ k.rtd.readers topic cell;
+        }
+
         turned : (a b : Bool) → (a && b) ≡ (b && a)
         turned true true = refl
         turned true false = refl
@@ -264,177 +327,309 @@ module _ (answer : Answers) (calc : CalcBook) (r : RtdState) (events : Listening
         neither false true h = cc
         neither false false h = refl
 
-        kept_unchanged : (cell : Cell) → not (is_forgotten (calc_begin (calc_of p noted) kind) cell) ≡ true → is_among p.changed cell ≡ false
+        kept_unchanged : (cell : Cell) → not (is_forgotten (calc_begin (calc_of t s noted) kind) cell) ≡ true → is_among s.changed cell ≡ false
         kept_unchanged cell stays =
             sym (k.changed cell)
-            ∙ unchanged_at_begin kind p.book noted cell (neither _ (is_among (changed_at_begin kind p.book noted) cell) stays)
+            ∙ unchanged_at_begin kind s.book.contents noted cell (neither _ (is_among (changed_at_begin kind s.book.contents noted) cell) stays)
+
+        -- the accepted values of the formula cells that aren't stale
+        values_begun : (cell : Cell) (site : ℕ) → accepted_value_at (values_of_clean s.book.contents now_changed s.accepted) cell site
+            ≡ cond (is_among (formula_cells s.book.contents) cell && not (is_stale s.book.contents now_changed cell)) (accepted_value_at s.accepted cell site) None
+        values_begun cell site =
+            values_kept (λ (a : AcceptedValue). is_among (formula_cells s.book.contents) a.cell && not (is_stale s.book.contents now_changed a.cell))
+            (λ q. is_among (formula_cells s.book.contents) q && not (is_stale s.book.contents now_changed q)) (λ a. refl) s.accepted cell site
+
+        -- a formula cell that isn't stale isn't changed
+        stays_clean : (cell : Cell) → is_formula s.book.contents cell ≡ true → is_stale s.book.contents now_changed cell ≡ false → is_among now_changed cell ≡ false
+        stays_clean cell formula fresh = fresh_unchanged s.book.contents now_changed cell formula fresh
+
+        forgotten_now : (cell : Cell) → is_forgotten (calc_begin (calc_of t s noted) kind) cell ≡ (is_stale s.book.contents now_changed cell || is_among now_changed cell)
+        forgotten_now cell =
+            let same = begun_alike kind s.book.contents noted s.changed k.changed in
+            ap (λ b. b || is_among (changed_at_begin kind s.book.contents noted) cell) (stale_alike s.book.contents (changed_at_begin kind s.book.contents noted) now_changed same cell)
+            ∙ ap (λ b. is_stale s.book.contents now_changed cell || b) (same cell)
+
+        by_formula : (cell : Cell) (site : ℕ)
+            → cond (is_among (formula_cells s.book.contents) cell && not (is_stale s.book.contents now_changed cell)) (accepted_value_at s.accepted cell site) None
+            ≡ lookup (nat_eq site) (cond (is_forgotten (calc_begin (calc_of t s noted) kind) cell) [] (results_of log cell))
+        by_formula cell site =
+            ap (λ b. cond (b && not (is_stale s.book.contents now_changed cell)) (accepted_value_at s.accepted cell site) None) (formula_cells-has s.book.contents k.clean.ordered cell)
+            ∙ cases (is_formula s.book.contents cell) (is_stale s.book.contents now_changed cell) (is_among now_changed cell) refl refl refl
+            ∙ sym (ap (λ b. lookup (nat_eq site) (cond b [] (results_of log cell))) (forgotten_now cell))
+          where
+            cases : (a b c : Bool) → is_formula s.book.contents cell ≡ a → is_stale s.book.contents now_changed cell ≡ b → is_among now_changed cell ≡ c
+                → cond (a && not b) (accepted_value_at s.accepted cell site) None ≡ lookup (nat_eq site) (cond (b || c) [] (results_of log cell))
+            cases true true c formula stale changed = refl
+            cases true false true formula stale changed = absurd (cc (stays_clean cell formula stale, changed))
+            cases true false false formula stale changed = k.accepted cell site
+            cases false true c formula stale changed = refl
+            cases false false true formula stale changed = refl
+            cases false false false formula stale changed =
+                let was_unchanged = unchanged_at_begin kind s.book.contents s.changed cell changed in
+                sym (k.formulas cell site (ap has_formula (k.clean.contents cell was_unchanged) ∙ formula) was_unchanged) ∙ k.accepted cell site
 
   -- ---- in a recalculation
-  module _ (k : Keeps answer calc r events round true p noted) where
-    -- the values of its topics are those that the source gives
-    pub snapshots_are : rtd_snapshot r ≡ values_at p p.opening
-    snapshots_are = λ i topic. snapshot_is answer r p k.rtd topic i
+  module _ (k : Keeps t calc r events log round true s noted) where
+    -- the setting of a book over this source and this log is that of the state
+    pub settings_are : setting_over t.answer (source_of r) log calc ≡ setting_of t s
+    settings_are = λ i. record {
+      snapshot = λ topic. snapshot_is t r s k.rtd k.clean.failed topic i;
+      accepted = λ cell site. sym (k.accepted cell site) i;
+      registered = registration_of (k.book.holds.functions i);
+      answer = t.answer;
+    }
 
-    -- it runs over the source
-    pub runs_over : InRound answer (rtd_snapshot r) calc (calc_of p noted)
-    runs_over = subst (λ now. InRound answer now calc (calc_of p noted)) (sym snapshots_are) k.book
+    -- it runs over them
+    pub runs_over : InRound (setting_over t.answer (source_of r) log calc) round calc (calc_of t s noted)
+    runs_over = subst (λ now. InRound now round calc (calc_of t s noted)) (sym settings_are) k.book
+
+    pub reads_over : ReadsInRound (setting_over t.answer (source_of r) log calc) (source_of r) calc
+    reads_over = subst (λ now. ReadsInRound now (source_of r) calc) (sym settings_are) (k.reads refl)
 
     pub is_round : is_some r.opening ≡ true
-    is_round = runs_round r p.opening k.rtd.opening
+    is_round = runs_round r (opening_topics s) k.rtd.opening
 
-    -- it couldn't be completed
-    pub kept-running : (after : CalcBook) (rtd : RtdState) → KeepsValues (source_of r) (source_of rtd) → InRound answer (rtd_snapshot rtd) after (calc_of p noted) → ReadsInRound answer (source_of rtd) after
-        → Keeps answer after rtd events round true p noted
-    kept-running after rtd values runs reads =
-        let stands : StandsFor answer (standing_of rtd) p true = subst (λ standing. StandsFor answer standing p true) (sym values.standing) k.rtd in
-        let snapshots : rtd_snapshot rtd ≡ values_at p p.opening = λ i topic. snapshot_is answer rtd p stands topic i in record {
-          topics = k.topics;
-          changed = k.changed;
-          book = subst (λ now. InRound answer now after (calc_of p noted)) snapshots runs;
-          rtd = stands;
-          reads = λ _. reads;
-          number = ap (λ standing. standing.round) values.standing ∙ k.number;
-          listeners = k.listeners;
+    -- after some work the setting is the same
+    pub settings_still : (after : CalcBook) (rtd : RtdState) → KeepsValues (source_of r) (source_of rtd) → InRound (setting_over t.answer (source_of rtd) log after) round after (calc_of t s noted)
+        → setting_over t.answer (source_of rtd) log after ≡ setting_of t s
+    settings_still after rtd values runs =
+        let stands : StandsFor t (standing_of rtd) s true = subst (λ standing. StandsFor t standing s true) (sym values.standing) k.rtd in λ i. record {
+          snapshot = λ topic. snapshot_is t rtd s stands k.clean.failed topic i;
+          accepted = λ cell site. sym (k.accepted cell site) i;
+          registered = registration_of (runs.holds.functions i);
+          answer = t.answer;
         }
 
+    pub kept-worked : (after : CalcBook) (rtd : RtdState) → KeepsValues (source_of r) (source_of rtd) → InRound (setting_over t.answer (source_of rtd) log after) round after (calc_of t s noted)
+        → ReadsInRound (setting_over t.answer (source_of rtd) log after) (source_of rtd) after
+        → Keeps t after rtd events log round true s noted
+    kept-worked after rtd values runs reads = record {
+      clean = k.clean;
+      runs = k.runs;
+      numbered = k.numbered;
+      changed = k.changed;
+      book = subst (λ now. InRound now round after (calc_of t s noted)) (settings_still after rtd values runs) runs;
+      rtd = subst (λ standing. StandsFor t standing s true) (sym values.standing) k.rtd;
+      reads = λ _. subst (λ now. ReadsInRound now (source_of rtd) after) (settings_still after rtd values runs) reads;
+      number = ap (λ standing. standing.round) values.standing ∙ k.number;
+      accepted = k.accepted;
+      formulas = k.formulas;
+      listeners = k.listeners;
+    }
+
     -- it is given up
-    pub kept-cancelled : (after : CalcBook) (rtd : RtdState) (now : Listening) (listeners : List Listener) → AtRest answer after (calc_of p noted)
+    pub kept-cancelled : (after : CalcBook) (rtd : RtdState) (now : Listening) → KeepsClean t (after_cancel s) → AtRest after (calc_of t s noted)
         → rtd.servers ≡ r.servers → ((topic : Topic) → rtd.published topic ≡ r.published topic) → rtd.throttle ≡ r.throttle → rtd.taken ≡ r.taken → rtd.opening ≡ None
-        → ((topic : Topic) (cell : Cell) → rtd.readers topic cell ≡ r.readers topic cell) → rtd.round ≡ r.round → listeners ≡ listeners_as now.listeners
-        → Keeps answer after rtd now round false (record p { listeners = listeners }) noted
-    kept-cancelled after rtd now listeners rest servers published throttle taken ended readers same_round heard = record {
-      topics = record { once = k.topics.once; published = k.topics.published; taken = k.topics.taken; opening = k.topics.opening; seen = k.topics.seen };
+        → ((topic : Topic) (cell : Cell) → rtd.readers topic cell ≡ r.readers topic cell) → rtd.round ≡ r.round → (after_cancel s).listeners ≡ listeners_as now.listeners
+        → Keeps t after rtd now log round false (after_cancel s) noted
+    kept-cancelled after rtd now clean rest servers published throttle taken ended readers same_round heard = record {
+      clean = clean;
+      runs = refl;
+      numbered = k.numbered;
       changed = k.changed;
       book = rest;
-      rtd = rtd-cancelled answer r p rtd listeners servers published throttle taken ended readers k.rtd;
+      rtd = record {
+        servers = servers ∙ k.rtd.servers;
+        published = λ topic. published topic ∙ k.rtd.published topic;
+        taken = λ topic. ap (lookup (same_topic topic)) taken ∙ k.rtd.taken topic;
+        throttle = throttle ∙ k.rtd.throttle;
+        opening = ended;
+        readers = λ topic cell. readers topic cell ∙ k.rtd.readers topic cell;
+      };
       reads = λ runs. absurd (cc (runs));
       number = same_round ∙ k.number;
+      accepted = k.accepted;
+      formulas = λ cell site none unchanged. k.formulas cell site (ap has_formula (sym (k.clean.contents cell unchanged)) ∙ none);
       listeners = heard;
     }
 
+    -- it completes
+    none_changed : readers_of_failed t s ≡ []
+    none_changed = nothing (formula_cells s.book.contents)
+      where
+        unread : (topics : List Topic) → list_any (is_listed (failed_topics s)) topics ≡ false
+        unread [] = refl
+        unread (topic ∷ topics) = ap (λ failed. is_listed failed topic || list_any (is_listed (failed_topics s)) topics) k.clean.failed ∙ unread topics
+
+        nothing : (cells : List Cell) → filter (λ cell. list_any (is_listed (failed_topics s)) (topics_of_cell (setting_of t s) s.book.contents cell)) cells ≡ []
+        nothing [] = refl
+        nothing (cell ∷ cells) = ap (λ b. cond b (cell ∷ filter (λ q. list_any (is_listed (failed_topics s)) (topics_of_cell (setting_of t s) s.book.contents q)) cells) (filter (λ q. list_any (is_listed (failed_topics s)) (topics_of_cell (setting_of t s) s.book.contents q)) cells)) (unread (topics_of_cell (setting_of t s) s.book.contents cell)) ∙ nothing cells
+
+    pub kept-done : (after : CalcBook) (rtd : RtdState) (now : Listening) → KeepsClean t (after_done t s) → AtRest after (calc_settle (calc_of t s noted) (setting_of t s))
+        → NotesReaders (setting_of t s) s.book.contents (source_of r)
+        → rtd.servers ≡ r.servers → ((topic : Topic) → rtd.published topic ≡ r.published topic) → rtd.throttle ≡ r.throttle → TakesRead r rtd → rtd.opening ≡ None
+        → ((topic : Topic) (cell : Cell) → rtd.readers topic cell ≡ r.reading topic cell) → rtd.round ≡ r.round → (after_done t s).listeners ≡ listeners_as now.listeners
+        → Keeps t after rtd now log round false (after_done t s) []
+    kept-done after rtd now clean rest notes servers published throttle takes ended readers same_round heard = record {
+      clean = clean;
+      runs = refl;
+      numbered = k.numbered;
+      changed = λ cell. ap (λ cells. is_among cells cell) (sym none_changed);
+      book = rest;
+      rtd = rtd-done t r rtd s k.clean.failed k.clean.ordered k.rtd
+          (λ topic cell. notes topic cell ∙ ap (λ b. cell_reads (setting_of t s) s.book.contents cell topic && b) (served_is t r s k.rtd topic))
+          takes servers published throttle ended readers;
+      reads = λ runs. absurd (cc (runs));
+      number = same_round ∙ k.number;
+      accepted = k.accepted;
+      formulas = λ cell site none unchanged. k.formulas cell site none;
+      listeners = heard;
+    }
+
+    -- ---- a value is accepted
+    module _ (handle : Handle) (value : Value) where
+      -- only the accepted values of its cell differ
+      pub differ_there : DifferAtCell (setting_of t s) (setting_of t (after_return s handle value)) handle.cell
+      differ_there = record {
+        accepted = λ q site other. sym (ap (λ b. cond (b && handle.site == site) (Some value) (accepted_value_at s.accepted q site)) other);
+        snapshot = λ topic. refl;
+        registered = λ name. refl;
+        answer = refl;
+      }
+
+      pub kept-accepted : (after : CalcBook) (rtd : RtdState) (logged : LogParts) → KeepsClean t (after_return s handle value) → is_formula s.book.contents handle.cell ≡ true
+          → InRound (setting_of t (after_return s handle value)) round after (calc_of t s noted)
+          → ReadsInRound (setting_of t (after_return s handle value)) (source_of rtd) after
+          → rtd.servers ≡ r.servers → ((topic : Topic) → rtd.published topic ≡ r.published topic) → rtd.throttle ≡ r.throttle → rtd.taken ≡ r.taken → rtd.opening ≡ r.opening
+          → ((topic : Topic) (cell : Cell) → rtd.readers topic cell ≡ r.readers topic cell) → rtd.round ≡ r.round
+          → ((cell : Cell) → results_of logged cell ≡ cond (same_cell handle.cell cell) ((handle.site, value) ∷ results_of log cell) (results_of log cell))
+          → Keeps t after rtd events logged round true (after_return s handle value) noted
+      kept-accepted after rtd logged clean formula runs reads servers published throttle taken opening readers same_round results = record {
+        clean = clean;
+        runs = k.runs;
+        numbered = k.numbered;
+        changed = k.changed;
+        book = runs;
+        rtd = record {
+          servers = servers ∙ k.rtd.servers;
+          published = λ topic. published topic ∙ k.rtd.published topic;
+          taken = λ topic. ap (lookup (same_topic topic)) taken ∙ k.rtd.taken topic;
+          throttle = throttle ∙ k.rtd.throttle;
+          opening = (k.rtd.opening.0, opening ∙ k.rtd.opening.1, k.rtd.opening.2);
+          readers = λ topic cell. readers topic cell ∙ k.rtd.readers topic cell;
+        };
+        reads = λ _. reads;
+        number = same_round ∙ k.number;
+        accepted = λ cell site. found cell site ∙ sym (ap (lookup (nat_eq site)) (results cell));
+        formulas = λ cell site none. elim (same_cell handle.cell cell) as (λ b. same_cell handle.cell cell ≡ b → cond (b && handle.site == site) (Some value) (accepted_value_at s.accepted cell site) ≡ None) [
+          | true ↦ λ same. absurd (cc (ap (is_formula s.book.contents) (same_cell_is handle.cell cell same), formula, none))
+          | false ↦ λ other. k.formulas cell site none
+        ] refl;
+        listeners = k.listeners;
+      }
+        where
+          turned : (a b : ℕ) → (a == b) ≡ nat_eq b a
+          turned a b = search (rules)
+
+          found : (cell : Cell) (site : ℕ) → cond (same_cell handle.cell cell && handle.site == site) (Some value) (accepted_value_at s.accepted cell site)
+              ≡ lookup (nat_eq site) (cond (same_cell handle.cell cell) ((handle.site, value) ∷ results_of log cell) (results_of log cell))
+          found cell site = elim (same_cell handle.cell cell) as (λ b. cond (b && handle.site == site) (Some value) (accepted_value_at s.accepted cell site)
+              ≡ lookup (nat_eq site) (cond b ((handle.site, value) ∷ results_of log cell) (results_of log cell))) [
+                | true ↦ ap (λ b. cond b (Some value) (accepted_value_at s.accepted cell site)) (turned handle.site site) ∙ ap (λ o. cond (nat_eq site handle.site) (Some value) o) (k.accepted cell site)
+                | false ↦ k.accepted cell site
+              ]
+
   -- ---- at all times
-  module _ (running : Bool) (k : Keeps answer calc r events round running p noted) where
-    -- what isn't known of real-time data changes nothing for a recalculation that runs
-    reads_still : (rtd : RtdState) (after : HostParts) → StandsFor answer (standing_of rtd) after running → ((topic : Topic) → values_at after after.opening topic ≡ values_at p p.opening topic)
-        → ((topic : Topic) → is_known after.servers topic.server ≡ is_known p.servers topic.server) → SameTopics r rtd → running ≡ true → ReadsInRound answer (source_of rtd) calc
-    reads_still rtd after stands same_values same_known same runs =
-        let old = subst (λ b. StandsFor answer (standing_of r) p b) runs k.rtd in
-        let new = subst (λ b. StandsFor answer (standing_of rtd) after b) runs stands in
-        reads_between answer calc (source_of r) (source_of rtd)
-        (λ topic. snapshot_is answer rtd after new topic ∙ same_values topic ∙ sym (snapshot_is answer r p old topic))
-        (λ topic. served_is answer rtd after new topic ∙ same_known topic ∙ sym (served_is answer r p old topic))
-        (λ topic cell. same.read.reading topic cell)
-        (k.reads runs)
-
-    -- a value is published
-    pub kept-published : (rtd : RtdState) (u : Topic) (value : Value) → is_known p.servers u.server ≡ true
-        → rtd.servers ≡ r.servers → ((topic : Topic) → rtd.published topic ≡ cond (same_topic u topic) (Some value) (r.published topic)) → rtd.throttle ≡ r.throttle → SameTopics r rtd
-        → Keeps answer calc rtd events round running (record p { published = topics_with p.published u value }) noted
-    kept-published rtd u value known servers published throttle same =
-        let stands : StandsFor answer (standing_of rtd) (record p { published = topics_with p.published u value }) running =
-        rtd-beside answer r p rtd running p.servers (topics_with p.published u value) p.throttle p.changed same (servers ∙ k.rtd.servers)
-        (λ topic. published topic ∙ ap (λ o. cond (same_topic u topic) (Some value) o) (k.rtd.published topic) ∙ ap (λ b. cond b (Some value) (lookup (same_topic topic) p.published)) (same_topics.symm u topic) ∙ sym (lookup-topics_with p.published u value topic))
-        (throttle ∙ k.rtd.throttle) k.rtd in record {
-          topics = topics-published answer p k.topics u value known;
-          changed = k.changed;
-          book = same_book running k.book;
-          rtd = stands;
-          reads = reads_still rtd (record p { published = topics_with p.published u value }) stands (λ topic. refl) (λ topic. refl) same;
-          number = same.round ∙ k.number;
-          listeners = k.listeners;
-        }
+  module _ (running : Bool) (k : Keeps t calc r events log round running s noted) where
+    -- servers, what is published, and listeners change
+    pub kept-beside : (rtd : RtdState) (now : Listening) (logged : LogParts) (servers : List KnownServer) (published : List (Topic × Value)) (listeners : List Listener)
+        → let later : State = record s { servers = servers; published = published; listeners = listeners } in
+        KeepsClean t later → ((topic : Topic) → is_known servers topic.server ≡ is_known s.servers topic.server)
+        → rtd.servers ≡ servers → ((topic : Topic) → rtd.published topic ≡ lookup (same_topic topic) published) → rtd.throttle ≡ r.throttle → SameTopics r rtd
+        → listeners ≡ listeners_as now.listeners → ((cell : Cell) → results_of logged cell ≡ results_of log cell)
+        → Keeps t calc rtd now logged round running later noted
+    kept-beside rtd now logged servers published listeners clean known same_servers same_published throttle same heard results = record {
+      clean = clean;
+      runs = k.runs;
+      numbered = k.numbered;
+      changed = k.changed;
+      book = same_book running k.book;
+      rtd = stands;
+      reads = λ runs. reads_between (setting_of t s) calc (source_of r) (source_of rtd)
+          (λ topic. served_is t rtd later (subst (λ b. StandsFor t (standing_of rtd) later b) runs stands) topic ∙ known topic
+          ∙ sym (served_is t r s (subst (λ b. StandsFor t (standing_of r) s b) runs k.rtd) topic))
+          (λ topic cell. same.read.reading topic cell) (k.reads runs);
+      number = same.round ∙ k.number;
+      accepted = λ cell site. k.accepted cell site ∙ sym (ap (lookup (nat_eq site)) (results cell));
+      formulas = same_formulas running k.formulas;
+      listeners = heard;
+    }
       where
-        same_book : (b : Bool) → Recalculates answer b calc p noted → Recalculates answer b calc (record p { published = topics_with p.published u value }) noted
+        later : State
+        later = record s { servers = servers; published = published; listeners = listeners }
+
+        same_book : (b : Bool) → Recalculates t b round calc s noted → Recalculates t b round calc later noted
         same_book true h = h
         same_book false h = h
 
-    -- a flag is raised
-    pub kept-flagged : (rtd : RtdState) (name : List ℕ) → rtd.servers ≡ servers_with_flag r.servers name → ((topic : Topic) → rtd.published topic ≡ r.published topic) → rtd.throttle ≡ r.throttle → SameTopics r rtd
-        → Keeps answer calc rtd events round running (record p { servers = servers_with_flag p.servers name }) noted
-    kept-flagged rtd name servers published throttle same =
-        let stands : StandsFor answer (standing_of rtd) (record p { servers = servers_with_flag p.servers name }) running =
-        rtd-beside answer r p rtd running (servers_with_flag p.servers name) p.published p.throttle p.changed same (servers ∙ ap (λ all. servers_with_flag all name) k.rtd.servers)
-        (λ topic. published topic ∙ k.rtd.published topic) (throttle ∙ k.rtd.throttle) k.rtd in record {
-          topics = topics-renamed answer p k.topics (servers_with_flag p.servers name) (names_with_flag p.servers name);
-          changed = k.changed;
-          book = same_book running k.book;
-          rtd = stands;
-          reads = reads_still rtd (record p { servers = servers_with_flag p.servers name }) stands (λ topic. refl) (λ topic. ap (λ names. list_any (bytes_eq topic.server) names) (names_with_flag p.servers name)) same;
-          number = same.round ∙ k.number;
-          listeners = k.listeners;
+        same_formulas : (b : Bool) → AreOfFormulas b s → AreOfFormulas b later
+        same_formulas true h = h
+        same_formulas false h = h
+
+        stands : StandsFor t (standing_of rtd) later running
+        stands = record {
+          servers = same_servers;
+          published = same_published;
+          taken = λ topic. ap (lookup (same_topic topic)) same.taken ∙ k.rtd.taken topic;
+          throttle = throttle ∙ k.rtd.throttle;
+          opening = opening_same r.opening rtd.opening running (opening_topics s) same.opening k.rtd.opening;
+          readers = λ topic cell. same.read.readers topic cell ∙ k.rtd.readers topic cell;
         }
-      where
-        same_book : (b : Bool) → Recalculates answer b calc p noted → Recalculates answer b calc (record p { servers = servers_with_flag p.servers name }) noted
-        same_book true h = h
-        same_book false h = h
+
+    -- all stays of real-time data
+    same_opening : (o : Option (Topic → Option Value)) → SameOpening o o
+    same_opening None = tt
+    same_opening (Some f) = λ topic. refl
+
+    still : SameTopics r r
+    still = record {
+      taken = refl;
+      opening = same_opening r.opening;
+      read = record { readers = λ topic cell. refl; reading = λ topic cell. refl };
+      round = refl;
+    }
 
     -- real-time data are as before
     pub kept-same_rtd : (rtd : RtdState) → rtd.servers ≡ r.servers → ((topic : Topic) → rtd.published topic ≡ r.published topic) → rtd.throttle ≡ r.throttle → SameTopics r rtd
-        → Keeps answer calc rtd events round running p noted
+        → Keeps t calc rtd events log round running s noted
     kept-same_rtd rtd servers published throttle same =
-        let stands : StandsFor answer (standing_of rtd) p running =
-        rtd-beside answer r p rtd running p.servers p.published p.throttle p.changed same (servers ∙ k.rtd.servers) (λ topic. published topic ∙ k.rtd.published topic) (throttle ∙ k.rtd.throttle) k.rtd in record {
-          topics = k.topics;
-          changed = k.changed;
-          book = k.book;
-          rtd = stands;
-          reads = reads_still rtd p stands (λ topic. refl) (λ topic. refl) same;
-          number = same.round ∙ k.number;
-          listeners = k.listeners;
-        }
+        kept-beside rtd events log s.servers s.published s.listeners k.clean (λ topic. refl) (servers ∙ k.rtd.servers) (λ topic. published topic ∙ k.rtd.published topic) throttle same k.listeners (λ cell. refl)
+
+    -- a value is published
+    pub kept-published : (rtd : RtdState) (u : Topic) (value : Value) → KeepsClean t (record s { published = topics_with s.published u value })
+        → rtd.servers ≡ r.servers → ((topic : Topic) → rtd.published topic ≡ cond (same_topic u topic) (Some value) (r.published topic)) → rtd.throttle ≡ r.throttle → SameTopics r rtd
+        → Keeps t calc rtd events log round running (record s { published = topics_with s.published u value }) noted
+    kept-published rtd u value clean servers published throttle same =
+        kept-beside rtd events log s.servers (topics_with s.published u value) s.listeners clean (λ topic. refl) (servers ∙ k.rtd.servers)
+        (λ topic. published topic ∙ ap (λ o. cond (same_topic u topic) (Some value) o) (k.rtd.published topic) ∙ ap (λ b. cond b (Some value) (lookup (same_topic topic) s.published)) (same_topics.symm u topic) ∙ sym (lookup-topics_with s.published u value topic))
+        throttle same k.listeners (λ cell. refl)
+
+    -- a flag is raised
+    pub kept-flagged : (rtd : RtdState) (name : List ℕ) → KeepsClean t (record s { servers = servers_with_flag s.servers name })
+        → rtd.servers ≡ servers_with_flag r.servers name → ((topic : Topic) → rtd.published topic ≡ r.published topic) → rtd.throttle ≡ r.throttle → SameTopics r rtd
+        → Keeps t calc rtd events log round running (record s { servers = servers_with_flag s.servers name }) noted
+    kept-flagged rtd name clean servers published throttle same =
+        kept-beside rtd events log (servers_with_flag s.servers name) s.published s.listeners clean (λ topic. ap (λ names. list_any (bytes_eq topic.server) names) (names_with_flag s.servers name))
+        (servers ∙ ap (λ all. servers_with_flag all name) k.rtd.servers) (λ topic. published topic ∙ k.rtd.published topic) throttle same k.listeners (λ cell. refl)
 
     -- other listeners
-    pub kept-heard : (now : Listening) (listeners : List Listener) → listeners ≡ listeners_as now.listeners → Keeps answer calc r now round running (record p { listeners = listeners }) noted
-    kept-heard now listeners heard = record {
-      topics = record { once = k.topics.once; published = k.topics.published; taken = k.topics.taken; opening = k.topics.opening; seen = k.topics.seen };
-      changed = k.changed;
-      book = same_book running k.book;
-      rtd = rtd-edited answer r p running p.book p.changed listeners k.rtd;
-      reads = k.reads;
-      number = k.number;
-      listeners = heard;
-    }
-      where
-        same_book : (b : Bool) → Recalculates answer b calc p noted → Recalculates answer b calc (record p { listeners = listeners }) noted
-        same_book true h = h
-        same_book false h = h
+    pub kept-heard : (now : Listening) (listeners : List Listener) → KeepsClean t (record s { listeners = listeners }) → listeners ≡ listeners_as now.listeners
+        → Keeps t calc r now log round running (record s { listeners = listeners }) noted
+    kept-heard now listeners clean heard = kept-beside r now log s.servers s.published listeners clean (λ topic. refl) k.rtd.servers k.rtd.published refl still heard (λ cell. refl)
 
--- ---- the end of a recalculation
-module _ (t : HostTerms) (calc : CalcBook) (r : RtdState) (events : Listening) (round : ℕ) (p : HostParts) (noted : List Cell) (k : Keeps t.answer calc r events round true p noted) where
-  pub kept-done : (after : CalcBook) (read rtd : RtdState) (now : Listening) (listeners : List Listener)
-      → KeepsValues (source_of r) (source_of read) → AtRest t.answer after (calc_settle (calc_of p noted) (rtd_snapshot r))
-      → NotesReaders (topic_setting t.answer (rtd_snapshot r)) p.book (source_of read)
-      → rtd.servers ≡ read.servers → ((topic : Topic) → rtd.published topic ≡ read.published topic) → rtd.throttle ≡ read.throttle → TakesRead read rtd → rtd.opening ≡ None
-      → ((topic : Topic) (cell : Cell) → rtd.readers topic cell ≡ read.reading topic cell) → rtd.round ≡ read.round → listeners ≡ listeners_as now.listeners
-      → Keeps t.answer after rtd now round false (parts_done t p round listeners) []
-  kept-done after read rtd now listeners values rest notes servers published throttle takes ended readers same_round heard =
-      let stands : StandsFor t.answer (standing_of read) p true = subst (λ standing. StandsFor t.answer standing p true) (sym values.standing) k.rtd in
-      let snapshots : rtd_snapshot r ≡ values_at p p.opening = snapshots_are t.answer calc r events round p noted k in record {
-        topics = topics-done t p round k.book.holds.ordered k.topics listeners;
-        changed = λ cell. refl;
-        book = subst (λ now. AtRest t.answer after (calc_settle (calc_of p noted) now)) snapshots rest;
-        rtd = rtd-done t read rtd p round k.book.holds.ordered stands
-            (λ topic cell. notes topic cell ∙ ap (λ now. cell_reads (topic_setting t.answer now) p.book cell topic && (is_some read.opening && is_known read.servers topic.server)) snapshots
-            ∙ ap (λ b. cell_reads (round_setting t.answer p) p.book cell topic && b) (served_is t.answer read p stands topic))
-            takes listeners servers published throttle ended readers;
-        reads = λ runs. absurd (cc (runs));
-        number = same_round ∙ ap (λ standing. standing.round) values.standing ∙ k.number;
-        listeners = heard;
-      }
+    -- another log with the same accepted values
+    pub kept-logged : (logged : LogParts) → ((cell : Cell) → results_of logged cell ≡ results_of log cell) → Keeps t calc r events logged round running s noted
+    kept-logged logged results = kept-beside r events logged s.servers s.published s.listeners k.clean (λ topic. refl) k.rtd.servers k.rtd.published refl still k.listeners results
 
 -- ---- before the first command
-pub kept-first : (answer : Answers) (calc : CalcBook) (r : RtdState) (events : Listening) → AtRest answer calc first_calc
+pub kept-first : (t : HostTerms) (calc : CalcBook) (r : RtdState) (events : Listening) (log : LogParts) → KeepsClean t first_state → AtRest calc (first_calc t.session (completed_setting t first_state))
     → r.servers ≡ [] → ((topic : Topic) → r.published topic ≡ None) → r.taken ≡ [] → r.throttle ≡ record { interval = pos 2000; last = None } → r.opening ≡ None
-    → ((topic : Topic) (cell : Cell) → r.readers topic cell ≡ false) → r.round ≡ 0 → events.listeners ≡ []
-    → Keeps answer calc r events 0 false first_parts []
-kept-first answer calc r events rest servers published taken throttle opening readers number none = record {
-  topics = record {
-    once = none_distinct;
-    published = λ topic unknown. refl;
-    taken = λ topic unknown. refl;
-    opening = λ topic unknown. refl;
-    seen = λ cell topic unchanged reads. inr (refl, refl);
-  };
+    → ((topic : Topic) (cell : Cell) → r.readers topic cell ≡ false) → r.round ≡ 0 → events.listeners ≡ [] → ((cell : Cell) → results_of log cell ≡ [])
+    → Keeps t calc r events log 0 false first_state []
+kept-first t calc r events log clean rest servers published taken throttle opening readers number none results = record {
+  clean = clean;
+  runs = refl;
+  numbered = refl;
   changed = λ cell. refl;
   book = rest;
   rtd = record {
@@ -447,6 +642,8 @@ kept-first answer calc r events rest servers published taken throttle opening re
   };
   reads = λ runs. absurd (cc (runs));
   number = number;
+  accepted = λ cell site. sym (ap (lookup (nat_eq site)) (results cell));
+  formulas = λ cell site none unchanged. refl;
   listeners = sym (ap listeners_as none);
 }
 
@@ -468,6 +665,6 @@ fired_as listeners before after event same fired =
     ap (λ all. listeners_with all event) same ∙ sym (listeners_fired before.listeners event) ∙ sym (ap (λ (all : Listening). listeners_as all.listeners) fired)
 
 -- ---- what is kept at all times
-pub holds_anyhow : (answer : Answers) (calc : CalcBook) (running : Bool) (p : HostParts) (noted : List Cell) → Recalculates answer running calc p noted → Holds answer calc (calc_of p noted)
-holds_anyhow answer calc true p noted h = h.holds
-holds_anyhow answer calc false p noted h = h.holds
+pub holds_anyhow : (t : HostTerms) (round : ℕ) (calc : CalcBook) (running : Bool) (s : State) (noted : List Cell) → Recalculates t running round calc s noted → Holds calc (calc_of t s noted)
+holds_anyhow t round calc true s noted h = h.holds
+holds_anyhow t round calc false s noted h = h.holds

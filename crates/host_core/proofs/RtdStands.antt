@@ -1,4 +1,4 @@
--- What is kept of real-time data stands for the parts of a host's state after each command.
+-- What is kept of real-time data stands for a host's state after each command.
 use Rattle.std.proofs.Common.{◌≡◌, ℕ, Bool, true, false, not, ◌&&◌, cond, List, [], ◌∷◌, ◌++◌, map, Option, Some, None, unwrap_or, refl, ap, sym, subst, ◌∙◌}
 use Rattle.std.specs.List.{list_any}
 use Rattle.std.specs.Map.{lookup}
@@ -9,17 +9,17 @@ use Rattle.cell_refs.proofs.PublicLaws.{found_among}
 use Rattle.cell_values.specs.declared.topics.Topic.{Topic}
 use Rattle.cell_values.specs.declared.values.Value.{Value}
 use Rattle.cell_values.specs.Topic.{same_topic}
-use Rattle.workbook.specs.declared.contents.Content.{Content}
+use Rattle.clean_cells.specs.Keeping.{opening_topics}
+use Rattle.workbook.specs.declared.commands.Moment.{Moment}
 use Rattle.workbook.specs.Book.{IsInOrder, formula_cells}
-use Rattle.workbook.specs.Pulling.{gives_values, is_named, pulled_servers, pulled_topics}
+use Rattle.workbook.specs.Pulling.{after_pull, gives_values, is_named, pulled_servers, pulled_throttle, pulled_topics, pulled_value}
 use Rattle.workbook.specs.Reads.{cell_reads}
-use Rattle.workbook.specs.State.{HostTerms, KnownServer, Listener, ThrottleState, not_available}
-use Rattle.host_core.specs.HostParts.{HostParts, IsOpening, StandsFor, is_known, round_setting, shown_setting, values_at}
-use Rattle.rtd_topics.specs.RtdState.{RtdState, SameOpening, SameReaders, SameTopics, TakesRead, knows_topic, rtd_snapshot, source_of, standing_of, value_pulled, with_value_pulled}
-use Rattle.calc_book.specs.Keeping.{Answers}
+use Rattle.workbook.specs.State.{HostTerms, State, completed_setting, not_available, setting_of, snapshot, snapshot_topics, topics_of_round}
+use Rattle.workbook.specs.Step.{after_done, failed_topics, taken_at_end}
+use Rattle.host_core.specs.HostKeeping.{IsOpening, StandsFor, is_known}
+use Rattle.rtd_topics.specs.RtdState.{RtdState, SameOpening, TakesRead, knows_topic, rtd_snapshot, source_of, standing_of, value_pulled, with_value_pulled}
 use Rattle.host_core.proofs.TopicLists.{lookup-append, lookup-map_entries}
-use Rattle.host_core.proofs.TopicPull.{connected-pulled, lookup-pulled, parts_pulled, pulled}
-use Rattle.host_core.proofs.TopicRounds.{is_in_use, lookup-left, parts_done, read_in_use, readers-done, topics_left}
+use Rattle.host_core.proofs.TopicRounds.{is_in_use, lookup-left, read_in_use, readers-done}
 
 -- ---- what was published at the beginning
 pub opening_same : (before after : Option (Topic → Option Value)) (running : Bool) (topics : List (Topic × Value)) → SameOpening before after → IsOpening running before topics → IsOpening running after topics
@@ -37,146 +37,123 @@ opening_same (Some f) (Some g) true topics same h =
 pub runs_round : (r : RtdState) (topics : List (Topic × Value)) → IsOpening true r.opening topics → is_some r.opening ≡ true
 runs_round r topics h = ap is_some h.1
 
-module _ (answer : Answers) (r : RtdState) (p : HostParts) where
+-- ---- the snapshot
+or_nothing : {X : Type 0} (o : Option X) → o ≡ option_or o None
+or_nothing None = refl
+or_nothing (Some x) = refl
+
+-- what is found of a topic
+snapshot_found : (s : State) → failed_topics s ≡ [] → (t : Topic) → lookup (same_topic t) (snapshot_topics s) ≡ option_or (lookup (same_topic t) s.taken) (lookup (same_topic t) (opening_topics s))
+snapshot_found s none t =
+    elim s.running as (λ o. option_map_or (λ running. running.failed) o [] ≡ []
+    → lookup (same_topic t) (option_map_or (topics_of_round s.taken) o s.taken) ≡ option_or (lookup (same_topic t) s.taken) (lookup (same_topic t) (option_map_or (λ running. running.opening) o []))) [
+      | None ↦ λ _. or_nothing (lookup (same_topic t) s.taken)
+      | Some r ↦ λ h.
+          ap (λ topics. lookup (same_topic t) ((map (λ topic. (topic, not_available)) topics ++ s.taken) ++ r.opening)) h
+          ∙ lookup-append s.taken r.opening t
+    ] none
+
+module _ (t : HostTerms) (r : RtdState) (s : State) where
   -- ---- what a recalculation gets of its topics
-  module _ (h : StandsFor answer (standing_of r) p true) where
-    at_opening : (topic : Topic) → option_and_then (λ (opening : Topic → Option Value). opening topic) r.opening ≡ lookup (same_topic topic) p.opening
+  module _ (h : StandsFor t (standing_of r) s true) where
+    at_opening : (topic : Topic) → option_and_then (λ (opening : Topic → Option Value). opening topic) r.opening ≡ lookup (same_topic topic) (opening_topics s)
     at_opening topic = ap (option_and_then (λ (opening : Topic → Option Value). opening topic)) h.opening.1 ∙ h.opening.2 topic
 
-    pub snapshot_is : (topic : Topic) → rtd_snapshot r topic ≡ values_at p p.opening topic
-    snapshot_is topic =
+    pub snapshot_is : failed_topics s ≡ [] → (topic : Topic) → rtd_snapshot r topic ≡ snapshot s topic
+    snapshot_is none topic =
         ap (λ o. unwrap_or o (unwrap_or (option_and_then (λ (opening : Topic → Option Value). opening topic) r.opening) not_available)) (h.taken topic)
-        ∙ ap (λ o. unwrap_or (lookup (same_topic topic) p.taken) (unwrap_or o not_available)) (at_opening topic)
-        ∙ either (lookup (same_topic topic) p.taken)
-        ∙ sym (ap (λ o. unwrap_or o not_available) (lookup-append p.taken p.opening topic))
+        ∙ ap (λ o. unwrap_or (lookup (same_topic topic) s.taken) (unwrap_or o not_available)) (at_opening topic)
+        ∙ either (lookup (same_topic topic) s.taken)
+        ∙ sym (ap (λ o. unwrap_or o not_available) (snapshot_found s none topic))
       where
-        either : (o : Option Value) → unwrap_or o (unwrap_or (lookup (same_topic topic) p.opening) not_available) ≡ unwrap_or (option_or o (lookup (same_topic topic) p.opening)) not_available
+        either : (o : Option Value) → unwrap_or o (unwrap_or (lookup (same_topic topic) (opening_topics s)) not_available) ≡ unwrap_or (option_or o (lookup (same_topic topic) (opening_topics s))) not_available
         either None = refl
         either (Some v) = refl
 
-    pub served_is : (topic : Topic) → (is_some r.opening && knows_topic r.servers topic) ≡ is_known p.servers topic.server
-    served_is topic = ap (λ b. b && knows_topic r.servers topic) (runs_round r p.opening h.opening) ∙ ap (λ servers. is_known servers topic.server) h.servers
+    pub served_is : (topic : Topic) → (is_some r.opening && knows_topic r.servers topic) ≡ is_known s.servers topic.server
+    served_is topic = ap (λ b. b && knows_topic r.servers topic) (runs_round r (opening_topics s) h.opening) ∙ ap (λ servers. is_known servers topic.server) h.servers
 
-  -- ---- commands
-  -- other parts change
-  pub rtd-edited : (running : Bool) (book : List (Cell × Content)) (changed : List Cell) (listeners : List Listener) → StandsFor answer (standing_of r) p running
-      → StandsFor answer (standing_of r) (record p { book = book; changed = changed; listeners = listeners }) running
-  rtd-edited running book changed listeners h = record {
-    servers = h.servers;
-    published = h.published;
-    taken = h.taken;
-    throttle = h.throttle;
-    opening = h.opening;
-    readers = h.readers;
-  }
-
-  -- servers, what is published, and the throttle change
-  pub rtd-beside : (after : RtdState) (running : Bool) (servers : List KnownServer) (published : List (Topic × Value)) (throttle : ThrottleState) (changed : List Cell)
-      → SameTopics r after → after.servers ≡ servers → ((topic : Topic) → after.published topic ≡ lookup (same_topic topic) published) → after.throttle ≡ throttle
-      → StandsFor answer (standing_of r) p running
-      → StandsFor answer (standing_of after) (record p { servers = servers; published = published; throttle = throttle; changed = changed }) running
-  rtd-beside after running servers published throttle changed same same_servers same_published same_throttle h = record {
-    servers = same_servers;
-    published = same_published;
-    taken = λ topic. ap (lookup (same_topic topic)) same.taken ∙ h.taken topic;
-    throttle = same_throttle;
-    opening = opening_same r.opening after.opening running p.opening same.opening h.opening;
-    readers = λ topic cell. same.read.readers topic cell ∙ h.readers topic cell;
-  }
-
-  -- a recalculation begins
-  pub rtd-begun : (after : RtdState) (changed : List Cell) → after.servers ≡ r.servers → ((topic : Topic) → after.published topic ≡ r.published topic) → after.throttle ≡ r.throttle → after.taken ≡ r.taken
-      → SameOpening (Some r.published) after.opening → ((topic : Topic) (cell : Cell) → after.readers topic cell ≡ r.readers topic cell)
-      → StandsFor answer (standing_of r) p false → StandsFor answer (standing_of after) (record p { changed = changed; opening = p.published }) true
-  rtd-begun after changed same_servers same_published same_throttle same_taken opened same_readers h = record {
-    servers = same_servers ∙ h.servers;
-    published = λ topic. same_published topic ∙ h.published topic;
-    taken = λ topic. ap (lookup (same_topic topic)) same_taken ∙ h.taken topic;
-    throttle = same_throttle ∙ h.throttle;
-    opening = opening_same (Some r.published) after.opening true p.published opened (r.published, refl, h.published);
-    readers = λ topic cell. same_readers topic cell ∙ h.readers topic cell;
-  }
-
-  -- it is given up
-  pub rtd-cancelled : (after : RtdState) (listeners : List Listener) → after.servers ≡ r.servers → ((topic : Topic) → after.published topic ≡ r.published topic) → after.throttle ≡ r.throttle → after.taken ≡ r.taken
-      → after.opening ≡ None → ((topic : Topic) (cell : Cell) → after.readers topic cell ≡ r.readers topic cell)
-      → StandsFor answer (standing_of r) p true → StandsFor answer (standing_of after) (record p { listeners = listeners }) false
-  rtd-cancelled after listeners same_servers same_published same_throttle same_taken ended same_readers h = record {
-    servers = same_servers ∙ h.servers;
-    published = λ topic. same_published topic ∙ h.published topic;
-    taken = λ topic. ap (lookup (same_topic topic)) same_taken ∙ h.taken topic;
-    throttle = same_throttle ∙ h.throttle;
-    opening = ended;
-    readers = λ topic cell. same_readers topic cell ∙ h.readers topic cell;
-  }
-
-  -- a pull takes the same values
-  pub pulled_alike : (running : Bool) → StandsFor answer (standing_of r) p running → (entry : Topic × Value) → value_pulled r entry ≡ pulled answer p entry
+  -- ---- a pull
+  -- it takes the same values
+  pub pulled_alike : (running : Bool) → StandsFor t (standing_of r) s running → (entry : Topic × Value) → value_pulled r entry ≡ pulled_value s.servers [] s.published entry
   pulled_alike running h entry =
       ap (λ servers. cond (gives_values servers [] entry.0.server) (unwrap_or (r.published entry.0) entry.1) entry.1) h.servers
-      ∙ ap (λ o. cond (gives_values p.servers [] entry.0.server) (unwrap_or o entry.1) entry.1) (h.published entry.0)
+      ∙ ap (λ o. cond (gives_values s.servers [] entry.0.server) (unwrap_or o entry.1) entry.1) (h.published entry.0)
 
-  pub rtd-pulled : (after : RtdState) (throttle : ThrottleState) → after.servers ≡ pulled_servers r.servers [] → ((topic : Topic) → after.published topic ≡ r.published topic) → after.throttle ≡ throttle
-      → after.taken ≡ with_value_pulled r r.taken → after.opening ≡ None → SameReaders r after
-      → StandsFor answer (standing_of r) p false → StandsFor answer (standing_of after) (parts_pulled answer p throttle) false
-  rtd-pulled after throttle same_servers same_published same_throttle now_taken none read h = record {
+  pub rtd-pulled : (after : RtdState) (moment : Moment) → after.servers ≡ pulled_servers r.servers [] → ((topic : Topic) → after.published topic ≡ r.published topic) → after.throttle ≡ pulled_throttle s.throttle moment
+      → after.taken ≡ with_value_pulled r r.taken → after.opening ≡ None → ((topic : Topic) (cell : Cell) → after.readers topic cell ≡ r.readers topic cell)
+      → StandsFor t (standing_of r) s false → StandsFor t (standing_of after) (after_pull t [] s moment) false
+  rtd-pulled after moment same_servers same_published same_throttle now_taken none read h = record {
     servers = same_servers ∙ ap (λ servers. pulled_servers servers []) h.servers;
     published = λ topic. same_published topic ∙ h.published topic;
-    taken = λ topic.
-        ap (lookup (same_topic topic)) now_taken
-        ∙ lookup-map_entries (value_pulled r) r.taken topic
-        ∙ ap (λ o. option_map_or (λ v. Some (value_pulled r (topic, v))) o None) (h.taken topic)
-        ∙ each topic (lookup (same_topic topic) p.taken)
-        ∙ sym (lookup-pulled answer p topic);
+    taken = taken_pulled;
     throttle = same_throttle;
     opening = none;
     readers = λ topic cell.
-        read.readers topic cell ∙ h.readers topic cell
-        ∙ ap (λ b. b && cell_reads (shown_setting answer p) p.completed cell topic) (sym (connected-pulled answer p topic));
+        read topic cell ∙ h.readers topic cell
+        ∙ ap (λ b. b && cell_reads (completed_setting t s) s.completed.book.contents cell topic) (sym (connected topic));
   }
     where
-      each : (topic : Topic) (o : Option Value) → option_map_or (λ v. Some (value_pulled r (topic, v))) o None ≡ option_map_or (λ v. Some (pulled answer p (topic, v))) o None
+      pulled : Topic × Value → Value
+      pulled = pulled_value s.servers [] s.published
+
+      each : (topic : Topic) (o : Option Value) → option_map_or (λ v. Some (value_pulled r (topic, v))) o None ≡ option_map_or (λ v. Some (pulled (topic, v))) o None
       each topic None = refl
       each topic (Some v) = ap Some (pulled_alike false h (topic, v))
 
+      taken_pulled : (topic : Topic) → lookup (same_topic topic) after.taken ≡ lookup (same_topic topic) (pulled_topics s.servers [] s.published s.taken)
+      taken_pulled topic =
+          ap (lookup (same_topic topic)) now_taken
+          ∙ lookup-map_entries (value_pulled r) r.taken topic
+          ∙ ap (λ o. option_map_or (λ v. Some (value_pulled r (topic, v))) o None) (h.taken topic)
+          ∙ each topic (lookup (same_topic topic) s.taken)
+          ∙ sym (lookup-map_entries pulled s.taken topic)
+
+      connected : (topic : Topic) → is_some (lookup (same_topic topic) (pulled_topics s.servers [] s.published s.taken)) ≡ is_some (lookup (same_topic topic) s.taken)
+      connected topic = ap is_some (lookup-map_entries pulled s.taken topic) ∙ still (lookup (same_topic topic) s.taken)
+        where
+          still : (o : Option Value) → is_some (option_map_or (λ v. Some (pulled (topic, v))) o None) ≡ is_some o
+          still None = refl
+          still (Some v) = refl
+
 -- ---- the end of a recalculation
-module _ (t : HostTerms) (r after : RtdState) (p : HostParts) (round : ℕ) (ordered : IsInOrder p.book)
-    (h : StandsFor t.answer (standing_of r) p true)
-    (read : (topic : Topic) (cell : Cell) → r.reading topic cell ≡ (cell_reads (round_setting t.answer p) p.book cell topic && is_known p.servers topic.server))
+module _ (t : HostTerms) (r after : RtdState) (s : State) (none : failed_topics s ≡ []) (ordered : IsInOrder s.book.contents)
+    (h : StandsFor t (standing_of r) s true)
+    (read : (topic : Topic) (cell : Cell) → r.reading topic cell ≡ (cell_reads (setting_of t s) s.book.contents cell topic && is_known s.servers topic.server))
     (takes : TakesRead r after) where
   -- the topics that are read are taken with their values
-  taken_after : (topic : Topic) → lookup (same_topic topic) after.taken ≡ lookup (same_topic topic) (topics_left t p round)
-  taken_after topic = by_use (is_in_use t p round topic && is_known p.servers topic.server) refl ∙ sym (lookup-left t p round topic)
+  taken_after : (topic : Topic) → lookup (same_topic topic) after.taken ≡ lookup (same_topic topic) (taken_at_end t s)
+  taken_after topic = by_use (is_in_use t s topic && is_known s.servers topic.server) refl ∙ sym (lookup-left t s none topic)
     where
       and_true : (a b : Bool) → (a && b) ≡ true → (a ≡ true) × (b ≡ true)
       and_true true b e = (refl, e)
       and_true false b e = cc
 
-      unread : (is_in_use t p round topic && is_known p.servers topic.server) ≡ false → (cell : Cell) → r.reading topic cell ≡ false
-      unread none cell = read topic cell ∙ by_both (cell_reads (round_setting t.answer p) p.book cell topic) (is_known p.servers topic.server) refl refl
+      unread : (is_in_use t s topic && is_known s.servers topic.server) ≡ false → (cell : Cell) → r.reading topic cell ≡ false
+      unread unused cell = read topic cell ∙ by_both (cell_reads (setting_of t s) s.book.contents cell topic) (is_known s.servers topic.server) refl refl
         where
-          by_both : (a b : Bool) → cell_reads (round_setting t.answer p) p.book cell topic ≡ a → is_known p.servers topic.server ≡ b → (a && b) ≡ false
-          by_both true true reads known = absurd (cc (none, read_in_use t p round ordered cell topic reads))
+          by_both : (a b : Bool) → cell_reads (setting_of t s) s.book.contents cell topic ≡ a → is_known s.servers topic.server ≡ b → (a && b) ≡ false
+          by_both true true reads known = absurd (cc (unused, read_in_use t s none ordered cell topic reads))
           by_both true false reads known = refl
           by_both false b reads known = refl
 
-      by_use : (b : Bool) → (is_in_use t p round topic && is_known p.servers topic.server) ≡ b → lookup (same_topic topic) after.taken ≡ cond (is_in_use t p round topic && is_known p.servers topic.server) (Some (values_at p p.opening topic)) None
+      by_use : (b : Bool) → (is_in_use t s topic && is_known s.servers topic.server) ≡ b → lookup (same_topic topic) after.taken ≡ cond (is_in_use t s topic && is_known s.servers topic.server) (Some (snapshot s topic)) None
       by_use true used =
-          let both = and_true (is_in_use t p round topic) (is_known p.servers topic.server) used in
-          let found = found_among (λ cell. cell_reads (round_setting t.answer p) p.book cell topic) (formula_cells p.book) both.0 in
-          takes.read topic found.0 (read topic found.0 ∙ ap (λ b. b && is_known p.servers topic.server) found.2 ∙ both.1)
-          ∙ ap Some (snapshot_is t.answer r p h topic)
-          ∙ sym (ap (λ b. cond b (Some (values_at p p.opening topic)) None) used)
-      by_use false unused = takes.unread topic (unread unused) ∙ sym (ap (λ b. cond b (Some (values_at p p.opening topic)) None) unused)
+          let both = and_true (is_in_use t s topic) (is_known s.servers topic.server) used in
+          let found = found_among (λ cell. cell_reads (setting_of t s) s.book.contents cell topic) (formula_cells s.book.contents) both.0 in
+          takes.read topic found.0 (read topic found.0 ∙ ap (λ b. b && is_known s.servers topic.server) found.2 ∙ both.1)
+          ∙ ap Some (snapshot_is t r s h none topic)
+          ∙ sym (ap (λ b. cond b (Some (snapshot s topic)) None) used)
+      by_use false unused = takes.unread topic (unread unused) ∙ sym (ap (λ b. cond b (Some (snapshot s topic)) None) unused)
 
-  pub rtd-done : (listeners : List Listener) → after.servers ≡ r.servers → ((topic : Topic) → after.published topic ≡ r.published topic) → after.throttle ≡ r.throttle → after.opening ≡ None
+  pub rtd-done : after.servers ≡ r.servers → ((topic : Topic) → after.published topic ≡ r.published topic) → after.throttle ≡ r.throttle → after.opening ≡ None
       → ((topic : Topic) (cell : Cell) → after.readers topic cell ≡ r.reading topic cell)
-      → StandsFor t.answer (standing_of after) (parts_done t p round listeners) false
-  rtd-done listeners same_servers same_published same_throttle ended now_readers = record {
+      → StandsFor t (standing_of after) (after_done t s) false
+  rtd-done same_servers same_published same_throttle ended now_readers = record {
     servers = same_servers ∙ h.servers;
     published = λ topic. same_published topic ∙ h.published topic;
     taken = taken_after;
     throttle = same_throttle ∙ h.throttle;
     opening = ended;
-    readers = λ topic cell. now_readers topic cell ∙ read topic cell ∙ readers-done t p round ordered topic cell;
+    readers = λ topic cell. now_readers topic cell ∙ read topic cell ∙ readers-done t s none ordered topic cell;
   }

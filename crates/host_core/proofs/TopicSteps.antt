@@ -1,10 +1,9 @@
--- What holds of the topics of a host still does after each command.
-use Rattle.std.proofs.Common.{◌≡◌, ◌⊎◌, inl, inr, ℕ, zero, suc, Bool, true, false, not, ◌&&◌, ◌||◌, cond, List, [], ◌∷◌, ◌++◌, map, All, Option, Some, None, unwrap_or, refl, ap, sym, subst, ◌∙◌}
-use Rattle.std.specs.List.{AllByRecursion, IsDistinct, filter, flat_map, list_any}
+-- Names of servers, published values, and the cells that read topics.
+use Rattle.std.proofs.Common.{◌≡◌, ℕ, Bool, true, false, ◌&&◌, ◌||◌, cond, List, [], ◌∷◌, ◌++◌, map, Option, Some, None, refl, ap, sym, ◌∙◌}
+use Rattle.std.specs.List.{filter, list_any}
 use Rattle.std.specs.Map.{keys_of, lookup, remove_entry}
-use Rattle.std.specs.Option.{is_some, option_map_or, option_or}
+use Rattle.std.specs.Option.{is_some}
 use Rattle.std.specs.Str.{bytes_eq}
-use Rattle.std.proofs.lemmas.List.Elements.{All-from_recursion}
 use Rattle.std.proofs.lemmas.List.Folds.{list_any-append}
 use Rattle.std.proofs.lemmas.Map.Entries.{lookup-filter-values, option_filter}
 use Rattle.std.proofs.lemmas.Map.Keys.{IsDistinct-from_sorted}
@@ -14,27 +13,20 @@ use Rattle.cell_refs.specs.Cell.{cell_cmp, is_among, same_cell}
 use Rattle.cell_refs.proofs.PublicLaws.{same_cell_is, same_cells}
 use Rattle.cell_values.specs.declared.topics.Topic.{Topic}
 use Rattle.cell_values.specs.declared.values.Value.{Value}
-use Rattle.cell_values.specs.SameValue.{same_value}
 use Rattle.cell_values.specs.Topic.{same_topic}
-use Rattle.cell_values.proofs.PublicLaws.{same_topics, same_topic-refl}
+use Rattle.cell_values.proofs.PublicLaws.{same_topic-refl}
 use Rattle.formula_parse.specs.declared.nodes.Node.{Node}
-use Rattle.formula_parse.specs.Tree.{has_rtd_call, sites_named}
 use Rattle.workbook.specs.declared.contents.Content.{Content}
 use Rattle.workbook.specs.declared.contents.Content.TheVariants as contents
-use Rattle.workbook.specs.Agreement.{AgreesBesideCells, IsAlikeBesideChanged}
-use Rattle.workbook.specs.Book.{IsInOrder, by_content, content_at, formula_cells, formula_count, has_formula, is_formula}
+use Rattle.workbook.specs.Book.{IsInOrder, by_content, content_at, formula_cells, has_formula, is_formula}
 use Rattle.workbook.specs.Meaning.{Setting}
-use Rattle.workbook.specs.Pulling.{changed_topics, is_named, pulled_servers, pulled_topics, pulled_value, readers_of_topics}
+use Rattle.workbook.specs.Pulling.{is_named, pulled_servers}
 use Rattle.workbook.specs.Reads.{cell_reads, is_listed, topics_of_cell}
-use Rattle.workbook.specs.Stale.{is_stale, reaches}
-use Rattle.workbook.specs.State.{HostTerms, KnownServer, State, ThrottleState, not_available, value_among}
+use Rattle.workbook.specs.State.{KnownServer}
 use Rattle.workbook.specs.Step.{formulas_where, servers_with_flag, topics_with}
-use Rattle.workbook.proofs.PublicLaws.{any_leads, cell_listed, formula_cells-has, or_false}
-use Rattle.host_core.specs.HostParts.{AreOfKnown, HostParts, IsAsShown, TopicsHold, is_known, shown_setting, values_at}
-use Rattle.calc_book.specs.Keeping.{Answers}
-use Rattle.calc_round.specs.Rounds.{topic_setting}
-use Rattle.host_core.proofs.SameValues.{same_value_is}
-use Rattle.host_core.proofs.TopicLists.{both_ways, keys-map_entries, listed-passing, lookup-append, lookup-map_entries, same_topic_is}
+use Rattle.workbook.proofs.PublicLaws.{cell_listed, formula_cells-has, or_false}
+use Rattle.host_core.specs.HostKeeping.{is_known}
+use Rattle.host_core.proofs.TopicLists.{same_topic_is}
 use Rattle.host_core.proofs.WithoutRtd.{calls_rtd, readers_call}
 
 -- ---- names of servers
@@ -84,28 +76,6 @@ lookup-topics_with topics u value t =
       | true ↦ λ _. refl
       | false ↦ λ other. lookup-without topics u t other
     ] refl
-
--- ---- what a list of topics gives
-value_of_found : (topics : List (Topic × Value)) (t : Topic) (v : Value) → lookup (same_topic t) topics ≡ Some v → value_among topics t ≡ v
-value_of_found topics t v h = ap (λ o. unwrap_or o not_available) h
-
-value_of_none : (topics : List (Topic × Value)) (t : Topic) → lookup (same_topic t) topics ≡ None → value_among topics t ≡ not_available
-value_of_none topics t h = ap (λ o. unwrap_or o not_available) h
-
--- a topic of an unknown server is #N/A in a recalculation
-pub value_of_unknown : (p : HostParts) (opening : List (Topic × Value)) → AreOfKnown p.servers p.taken → AreOfKnown p.servers opening → (t : Topic) → is_known p.servers t.server ≡ false
-    → values_at p opening t ≡ not_available
-value_of_unknown p opening taken opened t unknown =
-    value_of_none (p.taken ++ opening) t (lookup-append p.taken opening t ∙ ap (λ o. option_or o (lookup (same_topic t) opening)) (taken t unknown) ∙ opened t unknown)
-
--- a connected one has the value that was taken
-pub value_of_taken : (p : HostParts) (opening : List (Topic × Value)) (t : Topic) (v : Value) → lookup (same_topic t) p.taken ≡ Some v → values_at p opening t ≡ v
-value_of_taken p opening t v h = value_of_found (p.taken ++ opening) t v (lookup-append p.taken opening t ∙ ap (λ o. option_or o (lookup (same_topic t) opening)) h)
-
--- what is as it was shown is so in a recalculation that begins
-pub value_as_shown : (p : HostParts) (opening : List (Topic × Value)) → AreOfKnown p.servers p.taken → AreOfKnown p.servers opening → (t : Topic) → IsAsShown p t → value_among p.shown t ≡ values_at p opening t
-value_as_shown p opening taken opened t (inl connected) = sym (value_of_taken p opening t (value_among p.shown t) connected)
-value_as_shown p opening taken opened t (inr unknown) = unknown.1 ∙ sym (value_of_unknown p opening taken opened t unknown.0)
 
 -- ---- cells of a book
 either_alike : (test : Node → Bool) (o : Option Content) → is_some (option_filter (λ content. by_content (λ v. false) test (Some content)) o) ≡ by_content (λ v. false) test o
@@ -192,78 +162,3 @@ module _ (setting : Setting) (book : List (Cell × Content)) (ordered : IsInOrde
       second : (a b : Bool) → (a && b) ≡ true → b ≡ true
       second true b h = h
       second false b h = cc
-
--- ---- commands
-module _ (answer : Answers) (p : HostParts) (holds : TopicsHold answer p) where
-  -- more cells are changed, in whatever book
-  pub topics-edited : (book : List (Cell × Content)) (changed : List Cell) → ((cell : Cell) → is_among changed cell ≡ false → is_among p.changed cell ≡ false)
-      → TopicsHold answer (record p { book = book; changed = changed })
-  topics-edited book changed fewer = record {
-    once = holds.once;
-    published = holds.published;
-    taken = holds.taken;
-    opening = holds.opening;
-    seen = λ cell topic unchanged reads. holds.seen cell topic (fewer cell unchanged) reads;
-  }
-
-  -- a recalculation begins, in which more cells are changed
-  pub topics-begun : (changed : List Cell) → ((cell : Cell) → is_among changed cell ≡ false → is_among p.changed cell ≡ false)
-      → TopicsHold answer (record p { changed = changed; opening = p.published })
-  topics-begun changed fewer = record {
-    once = holds.once;
-    published = holds.published;
-    taken = holds.taken;
-    opening = holds.published;
-    seen = λ cell topic unchanged reads. holds.seen cell topic (fewer cell unchanged) reads;
-  }
-
-  -- a known server publishes
-  pub topics-published : (u : Topic) (value : Value) → is_known p.servers u.server ≡ true → TopicsHold answer (record p { published = topics_with p.published u value })
-  topics-published u value known = record {
-    once = holds.once;
-    published = λ t unknown.
-        lookup-topics_with p.published u value t
-        ∙ ap (λ b. cond b (Some value) (lookup (same_topic t) p.published)) (another t unknown (same_topic t u) refl)
-        ∙ holds.published t unknown;
-    taken = holds.taken;
-    opening = holds.opening;
-    seen = holds.seen;
-  }
-    where
-      another : (t : Topic) → is_known p.servers t.server ≡ false → (b : Bool) → same_topic t u ≡ b → same_topic t u ≡ false
-      another t unknown false is = is
-      another t unknown true is =
-          let one : t ≡ u = same_topic_is t u is in
-          absurd (cc (ap (λ (k : Topic). is_known p.servers k.server) one, known, unknown))
-
-  -- servers keep their names
-  pub topics-renamed : (servers : List KnownServer) → names_of servers ≡ names_of p.servers → TopicsHold answer (record p { servers = servers })
-  topics-renamed servers same = record {
-    once = holds.once;
-    published = λ t unknown. holds.published t (before t unknown);
-    taken = λ t unknown. holds.taken t (before t unknown);
-    opening = λ t unknown. holds.opening t (before t unknown);
-    seen = λ cell topic unchanged reads. shown_still topic (holds.seen cell topic unchanged reads);
-  }
-    where
-      before : (t : Topic) → is_known servers t.server ≡ false → is_known p.servers t.server ≡ false
-      before t unknown = ap (λ names. is_named names t.server) (sym same) ∙ unknown
-
-      shown_still : (t : Topic) → IsAsShown p t → IsAsShown (record p { servers = servers }) t
-      shown_still t (inl connected) = inl connected
-      shown_still t (inr unknown) = inr (ap (λ names. is_named names t.server) same ∙ unknown.0, unknown.1)
-
-  -- one more server is known, and the cells that call RTD are changed
-  pub topics-served : (server : KnownServer) → IsInOrder p.book → ((cell : Cell) → is_among p.changed cell ≡ false → content_at p.completed cell ≡ content_at p.book cell)
-      → TopicsHold answer (record p { servers = p.servers ++ server ∷ []; changed = formulas_where p.book has_rtd_call ++ p.changed })
-  topics-served server ordered others = record {
-    once = holds.once;
-    published = λ t unknown. holds.published t (known_before p.servers server t.server unknown);
-    taken = λ t unknown. holds.taken t (known_before p.servers server t.server unknown);
-    opening = λ t unknown. holds.opening t (known_before p.servers server t.server unknown);
-    seen = λ cell topic unchanged reads.
-        let both = or_false (is_among (formulas_where p.book has_rtd_call) cell) (is_among p.changed cell)
-        (sym (list_any-append (same_cell cell) (formulas_where p.book has_rtd_call) p.changed) ∙ unchanged) in
-        let calls = ap calls_rtd (sym (others cell both.1)) ∙ readers_call (shown_setting answer p) p.completed cell topic reads in
-        absurd (cc (among-formulas_where has_rtd_call p.book ordered cell, both.0, calls));
-  }

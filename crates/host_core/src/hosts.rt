@@ -1,9 +1,7 @@
-ghost use Rattle.std.specs.Prelude.{◌≡◌, ◌<◌, ◌≤◌, ◌++◌, ◌∷◌, [], vec_capacity, vec_len};
-
 use super::round_books::RoundBook;
 use addin_types::AddIns;
-use cell_refs::Cell;
-use cell_values::Memory;
+use cell_refs::{Cell, Handle};
+use cell_values::{Memory, Value};
 use rtd_server::Maker;
 use std::alloc::Global;
 use std::marker::Model;
@@ -25,11 +23,10 @@ pub struct Host<M: Maker + Drop, F: AddIns + Drop> {
     maker: M,
     addins: F,
     book: RoundBook<M::Server>,
-    history: Vec<Entry>,
 }
 
 impl<M: Maker + Drop, F: AddIns + Drop> Model for Host<M, F> {
-    ghost use Rattle.std.specs.Prelude.{◌+◌, ◌<◌, ◌≤◌, IsTrue, length, vec_capacity};
+    ghost use Rattle.std.specs.Prelude.{◌+◌, ◌<◌, ◌≤◌, IsTrue, length};
     ghost use Rattle.formula_parse.specs.contracts.nodes.Node as e;
     ghost use Rattle.host_core.specs.HostState.{HostState};
     ghost use Rattle.host_core.specs.Standing.{Stands, terms_with};
@@ -40,24 +37,24 @@ impl<M: Maker + Drop, F: AddIns + Drop> Model for Host<M, F> {
 
     ghost coded = { Prim.hlevel (codes, e.the_row.coded) };
 
-    ghost view = { λ h. record { session = h.session; limit = h.limit; history = h.history.items } };
+    ghost view = { λ h. record { session = h.session; limit = h.limit; history = h.book.log.entries } };
 
     // The book stands for the state that the history gives. The history and the events have room up to the limit.
-    ghost invariant = { λ h. (0 < h.session) × (length h.history.items ≤ h.limit)
-        × (h.limit ≤ vec_capacity h.history)
-        × (h.book.round ≤ length h.history.items)
-        × (h.limit ≤ length h.history.items + h.book.events.room)
+    ghost invariant = { λ h. (0 < h.session) × (length h.book.log.entries ≤ h.limit)
+        × (h.limit ≤ length h.book.log.entries + h.book.log.room)
+        × (h.book.round ≤ length h.book.log.entries)
+        × (h.limit ≤ length h.book.log.entries + h.book.events.room)
         × IsTrue M.is_steady
-        × Stands M.Server.state F.answer h.book
-        (state_of (terms_with F.answer h.session h.limit) h.history.items) };
+        × Stands M.Server.state (terms_with F.answer h.session h.limit) h.book
+        (state_of (terms_with F.answer h.session h.limit) h.book.log.entries) };
 }
 
 impl<M: Maker + Drop, F: AddIns + Drop> Host<M, F> {
-    ghost use Rattle.std.specs.Prelude.{None, IfOk, OnOk, IfErr, IsTrue, length};
+    ghost use Rattle.std.specs.Prelude.{◌≡◌, ◌<◌, [], IfOk, OnOk, IfErr, IsTrue, length};
     ghost use Rattle.cell_refs.specs.declared.grid.Cell.{Cell as OneCell};
     ghost use Rattle.cell_refs.specs.Cell.{is_among};
     ghost use Rattle.workbook.specs.InForm.{IsInForm};
-    ghost use Rattle.host_core.specs.HostState.{IsActFault, IsDeskCommand, IsTaken, state_now, terms_of, with_entry};
+    ghost use Rattle.host_core.specs.HostState.{IsActFault, IsNoReturn, IsTaken, state_now, terms_of, with_entry};
     ghost use Rattle.workbook.specs.declared.commands.Command.TheVariants as commands;
     ghost use Rattle.workbook.specs.Book.{is_formula};
     ghost use Rattle.workbook.specs.Step.{reply_to};
@@ -76,15 +73,13 @@ impl<M: Maker + Drop, F: AddIns + Drop> Host<M, F> {
         ensures { IfOk result (λ host. host
             ≡ record { session = session; limit = limit; history = [] }) }
     {
-        let history = Vec::with_capacity(alloc, limit)?;
-        let book = RoundBook::new(alloc, limit)?;
+        let book = RoundBook::new(alloc, session, limit)?;
         Ok(Host {
             session,
             limit,
             maker,
             addins,
             book,
-            history,
         })
     }
 
@@ -100,10 +95,13 @@ impl<M: Maker + Drop, F: AddIns + Drop> Host<M, F> {
         ensures fault { IfErr result (λ fault. IsActFault self.old command fault
             × (self.new ≡ self.old)) }
     {
-        self.answer(actor, command)
+        match command {
+            Command::Return { handle, value } => self.answer_return(actor, handle, value),
+            other => self.answer(actor, other),
+        }
     }
 
-    /// Settles: completes the recalculation that runs, if one does. A refusal changes nothing that shows.
+    /// Settles: completes the recalculation that runs, if one does, or tells for which calls it waits. A refusal changes nothing that shows.
     pub fn settle(&mut self, actor: u32) -> Result<Reply, ActFault>
         ensures reply { IfOk result (λ reply. reply ≡ reply_to (terms_of F.answer self.old) []
             (state_now F.answer self.old) commands.Settle) }
@@ -115,9 +113,9 @@ impl<M: Maker + Drop, F: AddIns + Drop> Host<M, F> {
         self.answer(actor, Command::Settle)
     }
 
-    /// Answers a command. An equal one is made first, for the history or to be given back.
+    /// Answers a command, but the return of a value. An equal one is made first, for the history or to be given back.
     fn answer(&mut self, actor: u32, command: Command) -> Result<Reply, ActFault>
-        requires taken { IsDeskCommand command }
+        requires taken { IsNoReturn command }
         requires form { IsInForm command }
         ensures reply { IfOk result (λ reply. reply
             ≡ reply_to (terms_of F.answer self.old) [] (state_now F.answer self.old) command) }
@@ -126,7 +124,7 @@ impl<M: Maker + Drop, F: AddIns + Drop> Host<M, F> {
         ensures fault { IfErr result (λ fault. IsActFault self.old command fault
             × (self.new ≡ self.old)) }
     {
-        if self.history.len() == self.limit {
+        if self.book.log().len() == self.limit {
             return Err(ActFault::Full(command));
         }
         let kept = match command.copy() {
@@ -135,16 +133,33 @@ impl<M: Maker + Drop, F: AddIns + Drop> Host<M, F> {
         };
         match self.book.act(&mut self.maker, &self.addins, command) {
             Ok(reply) => {
-                push_reserved(
-                    &mut self.history,
-                    Entry {
-                        actor,
-                        command: kept,
-                    },
-                );
+                self.book.note(Entry {
+                    actor,
+                    command: kept,
+                });
                 Ok(reply)
             }
             Err(Memory) => Err(ActFault::Memory(kept)),
+        }
+    }
+
+    /// Answers the return of a value, which becomes that of its entry, where it is accepted.
+    fn answer_return(&mut self, actor: u32, handle: Handle, value: Value) -> Result<Reply, ActFault>
+        ensures reply { IfOk result (λ reply. reply ≡ reply_to (terms_of F.answer self.old) []
+            (state_now F.answer self.old) (commands.Return handle value)) }
+        ensures entry { OnOk result (self.new
+            ≡ with_entry self.old actor (commands.Return handle value)) }
+        ensures room { OnOk result (length self.old.history < self.old.limit) }
+        ensures fault { IfErr result (λ fault.
+            IsActFault self.old (commands.Return handle value) fault
+            × (self.new ≡ self.old)) }
+    {
+        if self.book.log().len() == self.limit {
+            return Err(ActFault::Full(Command::Return { handle, value }));
+        }
+        match self.book.take_return(&self.addins, actor, handle, value) {
+            Ok(reply) => Ok(reply),
+            Err(value) => Err(ActFault::Memory(Command::Return { handle, value })),
         }
     }
 
@@ -167,7 +182,7 @@ impl<M: Maker + Drop, F: AddIns + Drop> Host<M, F> {
     pub fn history(&self) -> &[Entry]
         ensures { result.now ≡ self.now.history }
     {
-        self.history.as_slice()
+        self.book.log().entries()
     }
 
     /// The number of the session.
@@ -190,19 +205,10 @@ impl<M: Maker + Drop, F: AddIns + Drop> Host<M, F> {
         &self.addins
     }
 
-    /// Ends the host, and gives its history.
+    /// Ends the host, and gives its history: all topics are disconnected, and all servers ended. It takes no memory.
     pub fn close(self) -> Vec<Entry>
         ensures { result.items ≡ self.history }
     {
-        self.history
+        self.book.close().into_entries()
     }
-}
-
-/// Puts an entry at the end of a list that has room for it.
-fn push_reserved(entries: &mut Vec<Entry>, entry: Entry)
-    requires { vec_len entries.old < vec_capacity entries.old }
-    ensures items { entries.new.items ≡ entries.old.items ++ entry ∷ [] }
-    ensures room { vec_capacity entries.old ≤ vec_capacity entries.new }
-{
-    let _ = entries.push(entry);
 }

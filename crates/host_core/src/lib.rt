@@ -7,7 +7,16 @@ mod hosts;
 mod listeners;
 mod pulls;
 #[cfg(test)]
+mod random_oracle;
+#[cfg(test)]
+mod random_rows;
+#[cfg(test)]
+mod random_steps;
+#[cfg(test)]
 mod random_tests;
+#[cfg(test)]
+mod random_topics;
+mod returns;
 mod round_books;
 mod rounds;
 #[cfg(test)]

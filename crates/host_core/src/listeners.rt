@@ -1,7 +1,7 @@
 //! A host's listeners.
 
 ghost use Rattle.std.specs.Prelude.{IfOk, OnErr};
-ghost use Rattle.calc_book.specs.Keeping.{Answers};
+ghost use Rattle.host_core.specs.HostState.{Answers};
 ghost use Rattle.host_core.specs.Standing.{IsStep, KeepsNumbers, KeepsStates};
 ghost use Rattle.workbook.specs.declared.commands.Command.TheVariants as commands;
 

@@ -1,7 +1,7 @@
 //! A host's pulls of real-time data.
 
 ghost use Rattle.std.specs.Prelude.{◌≡◌, true, false, IfOk, OnErr};
-ghost use Rattle.calc_book.specs.Keeping.{Answers};
+ghost use Rattle.host_core.specs.HostState.{Answers};
 ghost use Rattle.workbook.specs.InForm.{IsMomentInForm};
 ghost use Rattle.host_core.specs.Standing.{IsStep, KeepsNumbers, KeepsStates, StandsForSome};
 ghost use Rattle.rtd_topics.specs.Parts.{rtd_of};

@@ -10,10 +10,7 @@ returns c =
     let count : c.count.result ≡ length (chars c.args.string.now) = search (rules, chars_from_encodes) in
     let short : length (chars c.args.string.now) ≤ 255 = omega (arith, count, c.if-count-gt255.false) in
     let one : c.in_ok-strings.strings ≡ c.args.string.now ∷ [] = c.in_ok-strings.ensures ∙ c.in_ok-vec.ensures.items ∙ ap (λ text. text ∷ []) c.in_ok-text.ensures.text in (
-      tt,
-      (
-        subst AreStringsInForm (sym one)
-            (omega arith, omega arith, All-cons (λ string. length (chars string) ≤ 255) c.args.string.now [] short (All-nil (λ string. length (chars string) ≤ 255))),
-        (λ blank. cc (blank)),
-      ),
+      subst AreStringsInForm (sym one)
+          (omega arith, omega arith, All-cons (λ string. length (chars string) ≤ 255) c.args.string.now [] short (All-nil (λ string. length (chars string) ≤ 255))),
+      (λ blank. cc (blank)),
     )

@@ -9,16 +9,16 @@ use mir.Syntax.{w64}
 use mir.Val.{of_z, to_z}
 
 pub server-requires : goal.server-requires
-server-requires g c = record { stands = (g.F.AddIns.answer, c.requires.stands.0, c.requires.stands.1) }
+server-requires g c = record { stands = (g.F.AddIns.answer, c.requires.stands) }
 
 pub pull-requires-clause-stands : goal.pull-requires-clause-stands
-pull-requires-clause-stands g c = (g.F.AddIns.answer, c.requires.stands.0, c.requires.stands.1)
+pull-requires-clause-stands g c = (g.F.AddIns.answer, c.requires.stands)
 
 pub begin-requires-clause-stands : goal.begin-requires-clause-stands
-begin-requires-clause-stands g c = (g.F.AddIns.answer, c.requires.stands.0, c.requires.stands.1)
+begin-requires-clause-stands g c = (g.F.AddIns.answer, c.requires.stands)
 
 pub cancel-requires-clause-stands : goal.cancel-requires-clause-stands
-cancel-requires-clause-stands g c = (g.F.AddIns.answer, c.requires.stands.0, c.requires.stands.1)
+cancel-requires-clause-stands g c = (g.F.AddIns.answer, c.requires.stands)
 
 pub returns-in-Notify-clause-step : goal.returns-in-Notify-clause-step
 returns-in-Notify-clause-step g c = rw c.in-Notify.is (c.notify.ensures.step g.F.AddIns.answer)

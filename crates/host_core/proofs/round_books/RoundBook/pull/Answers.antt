@@ -4,41 +4,41 @@ use Rattle.workbook.specs.declared.replies.Reply.TheVariants as replies
 use Rattle.workbook.specs.Pulling.{Early, Manual, is_flagged, pull_due}
 use Rattle.host_core.specs.Standing.{terms_with}
 use Rattle.host_core.proofs.HostKept.{moment_in_form}
-use Rattle.host_core.proofs.HostSteps.{due_reply, nothing_reply, step_aside}
+use Rattle.host_core.proofs.HostSteps.{busy_reply, due_reply, nothing_reply, step_aside}
 use Rattle.host_core.proofs.round_books.RoundBook.pull.Goals as goal
 
 pub returns-then-self-clause-step : goal.returns-then-self-clause-step
 returns-then-self-clause-step g c answer =
     let old = c.args.self.now in
-    step_aside g.S.RtdServer.state answer old true (commands.Pull c.args.moment) (replies.Busy old.round) c.if-self.true (λ session limit p noted kept. (refl, refl))
+    step_aside g.S.RtdServer.state answer old true (commands.Pull c.args.moment) (replies.Busy old.round) c.if-self.true (λ session limit s noted kept. (busy_reply s old.round kept.runs kept.numbered _, refl))
 
 pub returns-then-not-is_flagged-clause-step : goal.returns-then-not-is_flagged-clause-step
 returns-then-not-is_flagged-clause-step g c answer =
     let old = c.args.self.now in
     step_aside g.S.RtdServer.state answer old false (commands.Pull c.args.moment) replies.Nothing c.if-self.false
-    (λ session limit p noted kept.
+    (λ session limit s noted kept.
     let none = ap is_flagged (sym kept.rtd.servers) ∙ sym c.is_flagged.ensures ∙ c.if-not-is_flagged.true in
-    (sym (nothing_reply (terms_with answer session limit) p old.round c.args.moment none), refl))
+    (nothing_reply (terms_with answer session limit) s kept.runs c.args.moment none, refl))
 
 pub returns-in-Manual-clause-step : goal.returns-in-Manual-clause-step
 returns-in-Manual-clause-step g c answer =
     let old = c.args.self.now in
     let moment = c.args.moment in
     step_aside g.S.RtdServer.state answer old false (commands.Pull moment) replies.Manual c.if-self.false
-    (λ session limit p noted kept.
+    (λ session limit s noted kept.
     let flagged = ap is_flagged (sym kept.rtd.servers) ∙ sym c.is_flagged.ensures ∙ c.if-not-is_flagged.false in
     let due = ap (λ throttle. pull_due throttle moment) (sym kept.rtd.throttle) ∙ sym c.in-Manual.ensures in
-    (sym (due_reply (terms_with answer session limit) p old.round moment flagged Manual due), refl))
+    (due_reply (terms_with answer session limit) s kept.runs moment flagged Manual due, refl))
 
 pub returns-in-Early-clause-step : goal.returns-in-Early-clause-step
 returns-in-Early-clause-step g c answer =
     let old = c.args.self.now in
     let moment = c.args.moment in
     step_aside g.S.RtdServer.state answer old false (commands.Pull moment) (replies.Early c.in-Early.wait) c.if-self.false
-    (λ session limit p noted kept.
+    (λ session limit s noted kept.
     let flagged = ap is_flagged (sym kept.rtd.servers) ∙ sym c.is_flagged.ensures ∙ c.if-not-is_flagged.false in
     let due = ap (λ throttle. pull_due throttle moment) (sym kept.rtd.throttle) ∙ sym c.in-Early.ensures in
-    (sym (due_reply (terms_with answer session limit) p old.round moment flagged (Early c.in-Early.wait) due), refl))
+    (due_reply (terms_with answer session limit) s kept.runs moment flagged (Early c.in-Early.wait) due, refl))
 
 pub due-requires : goal.due-requires
 due-requires g c = moment_in_form c.args.moment c.requires.form
@@ -68,13 +68,13 @@ pub returns-in-Now-clause-numbers : goal.returns-in-Now-clause-numbers
 returns-in-Now-clause-numbers g c = c.take.ensures.numbers
 
 pub returns-then-self-clause-numbers : goal.returns-then-self-clause-numbers
-returns-then-self-clause-numbers g c = record { round = refl; room = refl }
+returns-then-self-clause-numbers g c = record { round = refl; room = refl; log = record { entries = refl; room = refl } }
 
 pub returns-then-not-is_flagged-clause-numbers : goal.returns-then-not-is_flagged-clause-numbers
-returns-then-not-is_flagged-clause-numbers g c = record { round = refl; room = refl }
+returns-then-not-is_flagged-clause-numbers g c = record { round = refl; room = refl; log = record { entries = refl; room = refl } }
 
 pub returns-in-Manual-clause-numbers : goal.returns-in-Manual-clause-numbers
-returns-in-Manual-clause-numbers g c = record { round = refl; room = refl }
+returns-in-Manual-clause-numbers g c = record { round = refl; room = refl; log = record { entries = refl; room = refl } }
 
 pub returns-in-Early-clause-numbers : goal.returns-in-Early-clause-numbers
-returns-in-Early-clause-numbers g c = record { round = refl; room = refl }
+returns-in-Early-clause-numbers g c = record { round = refl; room = refl; log = record { entries = refl; room = refl } }
