@@ -1,5 +1,5 @@
 -- What one more command does to a desk that stands for a state.
-use Rattle.std.proofs.Common.{◌≡◌, ◌<◌, List, [], ◌∷◌, ◌++◌, length, refl, ap, ◌∙◌, length-append, arith}
+use Rattle.std.proofs.Common.{◌≡◌, ◌<◌, Bool, List, [], ◌∷◌, ◌++◌, length, refl, ap, ◌∙◌, length-append, arith}
 use Rattle.addin_types.specs.Samples.{sample_answer}
 use Rattle.workbook.specs.declared.commands.Command.{Command}
 use Rattle.workbook.specs.declared.history.Entry.{Entry}
@@ -7,7 +7,8 @@ use Rattle.workbook.specs.declared.replies.Reply.{Reply}
 use Rattle.workbook.specs.History.{commands_of, state_after_all, state_of}
 use Rattle.workbook.specs.State.{HostTerms, State, first_state}
 use Rattle.workbook.specs.Step.{reply_to, state_after}
-use Rattle.host_core.specs.HostState.{HostState, state_now, terms_of, with_entry}
+use Rattle.workbook.specs.Desk.{DeskState, desk_with}
+use Rattle.host_core.specs.HostState.{HostState, desk_of, state_now, terms_of, with_entry}
 use Rattle.rtdhost.specs.Desk.{Stands}
 use Rattle.rtdhost.specs.Output.{program_terms}
 
@@ -27,3 +28,11 @@ desk_acted desk s command reply stands answered room =
         state = history_more program_terms first_state desk.history entry ∙ ap (λ x. state_after program_terms [] x command) stands.state;
       },
     )
+
+-- the host at which a desk is
+abbrev host_at : DeskState → HostState
+host_at desk = record { session = desk.session; limit = desk.limit; history = desk.history }
+
+-- the host of a desk that has one more entry has it
+pub entry_noted : (steady : Bool) (old new : HostState) (command : Command) → desk_of steady new ≡ desk_with (desk_of steady old) command → new ≡ with_entry old 0 command
+entry_noted steady old new command is = ap host_at is

@@ -7,7 +7,8 @@ use Rattle.workbook.specs.declared.commands.Command.{Command}
 use Rattle.workbook.specs.History.{replies_to_all}
 use Rattle.workbook.specs.State.{State}
 use Rattle.workbook.specs.Step.{reply_to, state_after}
-use Rattle.session_script.specs.declared.script.Parsed.{Parsed}
+use Rattle.session_script.specs.declared.faults.BadLine.{BadLine}
+use Rattle.session_script.specs.declared.parsed.Parsed.{Parsed}
 use Rattle.session_script.specs.Script.{line_said}
 use Rattle.host_io.specs.Sink.{AppendsPrefix}
 use Rattle.host_io.proofs.PublicLaws.{AppendsPrefix-wider}
@@ -52,12 +53,12 @@ replies-first (suc n) s (command ∷ commands) =
     (later.0, ap (λ bs. reply_text (reply_to program_terms [] s command) ++ bs) later.1 ∙ sym (append_assoc (reply_text (reply_to program_terms [] s command)) _ _))
 
 -- the same of a line that says more commands than are answered
-pub said-first : (room : ℕ) (s : State) (said : Option Parsed) → room < length (commands_of_line said) → (rest : List ℕ) × (said_reply s said ≡ replies_to_first room s said ++ rest)
-said-first room s None few = absurd (omega (arith, few))
-said-first room s (Some said) few = replies-first room s (commands_of_line (Some said))
+pub said-first : (room : ℕ) (s : State) (said : Result Parsed BadLine) → room < length (commands_of_line said) → (rest : List ℕ) × (said_reply s said ≡ replies_to_first room s said ++ rest)
+said-first room s (Err fault) few = absurd (omega (arith, few))
+said-first room s (Ok said) few = replies-first room s (commands_of_line (Ok said))
 
 -- what is held of a line whose later commands are refused, or a prefix of it, is a prefix of what the line is answered with
-pub prefix-first : {T E : Type 0} (answer : Result T E) (room : ℕ) (s : State) (said : Option Parsed) (held : List ℕ) (old new : Option (List ℕ)) → room < length (commands_of_line said) → held ≡ replies_to_first room s said → AppendsPrefix old held new → OnErr answer (AppendsPrefix old (said_reply s said) new)
+pub prefix-first : {T E : Type 0} (answer : Result T E) (room : ℕ) (s : State) (said : Result Parsed BadLine) (held : List ℕ) (old new : Option (List ℕ)) → room < length (commands_of_line said) → held ≡ replies_to_first room s said → AppendsPrefix old held new → OnErr answer (AppendsPrefix old (said_reply s said) new)
 prefix-first (Ok x) room s said held old new few is prefix = tt
 prefix-first (Err e) room s said held old new few is prefix =
     let rest = said-first room s said few in

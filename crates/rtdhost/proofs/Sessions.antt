@@ -1,11 +1,13 @@
 -- What one line more does to what a session has answered and written.
-use Rattle.std.proofs.Common.{◌≡◌, ℕ, ◌+◌, ◌<◌, ◌⊎◌, inl, inr, Bool, true, false, cond, List, [], ◌∷◌, ◌++◌, length, Option, Some, None, refl, sym, ap, subst, ◌∙◌, append_assoc, arith}
+use Rattle.std.proofs.Common.{◌≡◌, ℕ, ◌+◌, ◌<◌, ◌⊎◌, inl, inr, Bool, true, false, cond, List, [], ◌∷◌, ◌++◌, length, Option, Some, None, Result, Ok, Err, refl, sym, ap, subst, ◌∙◌, append_assoc, arith}
 use Rattle.std.proofs.lemmas.Bool.{lt-ltb}
 use Rattle.std.proofs.lemmas.List.{append-nil}
 use Rattle.workbook.specs.State.{State, first_state}
 use Rattle.host_core.specs.HostState.{HostState}
 use Rattle.host_io.specs.declared.reader.Line.{Line}
-use Rattle.session_script.specs.declared.script.Parsed.{Parsed}
+use Rattle.session_script.specs.declared.faults.BadLine.{BadLine}
+use Rattle.session_script.specs.declared.faults.BadLine.TheVariants as faults
+use Rattle.session_script.specs.declared.parsed.Parsed.{Parsed}
 use Rattle.rtdhost.specs.Desk.{Stands, room_of}
 use Rattle.host_io.specs.Lines.{lines_of, IsWhole}
 use Rattle.rtdhost.specs.Output.{commands_in, commands_of_line, program_terms, said_reply, said_after, replies_from, replies_to_first, replies_within, state_from}
@@ -18,13 +20,14 @@ use Rattle.host_io.proofs.PublicLaws.{lines_at_end}
 use Rattle.host_io.proofs.PublicLaws.{lines_of-append}
 use Rattle.host_io.proofs.PublicLaws.{Appends-more, AppendsPrefix-more, AppendsPrefix-wider}
 
-none_if : (b : Bool) (o : Option Parsed) → b ≡ true → cond b None o ≡ None
-none_if true o h = refl
-none_if false o h = cc
+long_if : (b : Bool) (r : Result Parsed BadLine) → b ≡ true → cond b (Err faults.Long) r ≡ Err faults.Long
+long_if true r h = refl
+long_if false r h = cc
 
--- a line that is too long says nothing
-pub too_long : (text : List ℕ) → 160000 < length text → line_said text ≡ None
-too_long text long = none_if _ _ (lt-ltb 160000 (length text) long)
+-- a line that is too long is bad for it
+pub too_long : (text : List ℕ) → 160000 < length text → line_said text ≡ Err faults.Long
+unfolding line_said
+too_long text long = long_if _ _ (lt-ltb 160000 (length text) long)
 
 -- the answers to some lines and more
 pub replies-append : (s : State) (lines more : List (List ℕ)) → replies_from s (lines ++ more) ≡ replies_from s lines ++ replies_from (state_from s lines) more

@@ -1,10 +1,9 @@
 -- For the crate's own functions: the desk that stands for a state, and when it refuses a command of a line.
-use Rattle.std.specs.Prelude.{◌≡◌, ℕ, ◌-◌, ◌<◌, ◌≤◌, Option, List, ◌++◌, length}
+use Rattle.std.specs.Prelude.{◌≡◌, ℕ, ◌-◌, ◌<◌, ◌≤◌, Result, List, ◌++◌, length}
 use Rattle.addin_types.specs.Samples.{sample_answer}
-use Rattle.workbook.specs.InForm.{IsInForm}
-use Rattle.host_core.specs.HostState.{HostState, IsDeskCommand, terms_of}
-use Rattle.session_script.specs.declared.script.Parsed.{Parsed}
-use Rattle.session_script.specs.declared.script.Parsed.TheVariants as parsed
+use Rattle.host_core.specs.HostState.{HostState, terms_of}
+use Rattle.session_script.specs.declared.faults.BadLine.{BadLine}
+use Rattle.session_script.specs.declared.parsed.Parsed.{Parsed}
 use Rattle.workbook.specs.History.{state_of}
 use Rattle.workbook.specs.State.{State}
 use Rattle.rtdhost.specs.Output.{commands_of_line, program_terms, replies_to_first}
@@ -21,15 +20,9 @@ pub record Stands (desk : HostState) (s : State) : Type 0 where
 abbrev pub room_of : HostState → ℕ
 room_of desk = program_terms.limit - length desk.history
 
--- a line that says commands that a plain desk takes, in form
-abbrev pub SaysDeskCommands : Parsed → Type 0
-SaysDeskCommands parsed.Empty = Unit {0}
-SaysDeskCommands (parsed.One command) = IsDeskCommand command × IsInForm command
-SaysDeskCommands (parsed.Calc kind) = Unit {0}
-
 -- A line is refused: where no command is answered any more, the line says more commands than were still to be answered,
 -- and the replies to those are appended.
-abbrev pub IsRefused : HostState → State → Option Parsed → List ℕ → List ℕ → Refusal → Type 0
+abbrev pub IsRefused : HostState → State → Result Parsed BadLine → List ℕ → List ℕ → Refusal → Type 0
 IsRefused desk s said old new refusals.Full =
     (room_of desk < length (commands_of_line said)) × (new ≡ old ++ replies_to_first (room_of desk) s said)
 IsRefused desk s said old new refusals.Memory = Unit {0}

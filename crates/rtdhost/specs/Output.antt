@@ -1,13 +1,15 @@
 -- What the program writes for the bytes that it reads.
-use Rattle.std.specs.Prelude.{ℕ, ◌+◌, ◌-◌, nat_le, if◌then◌else◌, Option, Some, None, List, [], ◌∷◌, ◌++◌, length, take, codes}
+use Rattle.std.specs.Prelude.{ℕ, ◌+◌, ◌-◌, nat_le, if◌then◌else◌, Result, Ok, Err, List, [], ◌∷◌, ◌++◌, length, take}
 use Rattle.std.specs.List.{flat_map}
 use Rattle.addin_types.specs.Samples.{sample_answer}
 use Rattle.workbook.specs.declared.commands.Command.{Command}
 use Rattle.workbook.specs.declared.commands.Command.TheVariants as commands
 use Rattle.workbook.specs.History.{replies_to_all, state_after_all}
 use Rattle.workbook.specs.State.{HostTerms, State, first_state}
-use Rattle.session_script.specs.declared.script.Parsed.{Parsed}
-use Rattle.session_script.specs.declared.script.Parsed.TheVariants as parsed
+use Rattle.session_script.specs.declared.faults.BadLine.{BadLine}
+use Rattle.session_script.specs.declared.parsed.Parsed.{Parsed}
+use Rattle.session_script.specs.declared.parsed.Parsed.TheVariants as parsed
+use Rattle.session_script.specs.Faults.{fault_text}
 use Rattle.host_io.specs.Lines.{lines_of}
 use Rattle.sheet_print.specs.Replies.{bad_text, reply_text}
 use Rattle.session_script.specs.Script.{line_said}
@@ -23,20 +25,20 @@ commands_said parsed.Empty = []
 commands_said (parsed.One command) = command ∷ []
 commands_said (parsed.Calc kind) = commands.Begin kind ∷ commands.Settle ∷ []
 
--- the commands of what a line says: none for a line of no known form
-abbrev pub commands_of_line : Option Parsed → List Command
-commands_of_line None = []
-commands_of_line (Some said) = commands_said said
+-- the commands of what a line says: none for a bad line
+abbrev pub commands_of_line : Result Parsed BadLine → List Command
+commands_of_line (Err fault) = []
+commands_of_line (Ok said) = commands_said said
 
--- what is written for what a line says: the lines of the replies to its commands; `bad later` for a line of no known form
-abbrev pub said_reply : State → Option Parsed → List ℕ
-said_reply s None = bad_text (codes "later")
-said_reply s (Some said) = flat_map reply_text (replies_to_all program_terms s (commands_said said))
+-- what is written for what a line says: the lines of the replies to its commands; of a bad line `bad` and its first fault
+abbrev pub said_reply : State → Result Parsed BadLine → List ℕ
+said_reply s (Err fault) = bad_text (fault_text fault)
+said_reply s (Ok said) = flat_map reply_text (replies_to_all program_terms s (commands_said said))
 
 -- the state after what a line says
-abbrev pub said_after : State → Option Parsed → State
-said_after s None = s
-said_after s (Some said) = state_after_all program_terms s (commands_said said)
+abbrev pub said_after : State → Result Parsed BadLine → State
+said_after s (Err fault) = s
+said_after s (Ok said) = state_after_all program_terms s (commands_said said)
 
 -- what is written for these lines, from a state on
 abbrev pub replies_from : State → List (List ℕ) → List ℕ
@@ -59,7 +61,7 @@ commands_in [] = 0
 commands_in (line ∷ lines) = length (commands_of_line (line_said line)) + commands_in lines
 
 -- what is written for the first so many commands of what a line says
-abbrev pub replies_to_first : ℕ → State → Option Parsed → List ℕ
+abbrev pub replies_to_first : ℕ → State → Result Parsed BadLine → List ℕ
 replies_to_first room s said = flat_map reply_text (replies_to_all program_terms s (take room (commands_of_line said)))
 
 -- what is written for these lines where so many commands are answered, and none behind them: up to the first command

@@ -1,8 +1,7 @@
 //! Acts on the lines of a script and appends their replies.
 
-ghost use Rattle.std.specs.Prelude.{◌≡◌, ◌++◌, ◌+◌, [], IfErr, OnOk, None, Some, length};
+ghost use Rattle.std.specs.Prelude.{◌≡◌, ◌≢◌, ◌++◌, ◌+◌, [], IfErr, OnOk, Ok, Err, length};
 ghost use Rattle.workbook.specs.InForm.{IsInForm};
-ghost use Rattle.host_core.specs.HostState.{IsDeskCommand};
 ghost use Rattle.rtdhost.specs.Desk.{IsRefused, Stands};
 ghost use Rattle.rtdhost.specs.Output.{commands_of_line, program_terms, said_reply, said_after};
 ghost use Rattle.sheet_print.specs.Replies.{reply_text};
@@ -12,12 +11,12 @@ ghost use Rattle.workbook.specs.Step.{reply_to, state_after};
 
 use addin_types::SampleAddIns;
 use cell_values::Memory;
-use host_core::{ActFault, PlainDesk};
+use host_core::PlainDesk;
 use rtd_server::FeedMaker;
-use session_script::{BadLine, Parsed, read_line};
-use sheet_print::{bad_text, reply_text};
+use session_script::{BadLine, Parsed, bad_word, read_line};
+use sheet_print::reply_text;
 use std::alloc::Global;
-use workbook::{BeginKind, Command};
+use workbook::{BeginKind, Command, Desk, DeskFault};
 
 /// The most commands that are answered.
 pub const MAX_COMMANDS: usize = 1_000_000;
@@ -62,18 +61,43 @@ pub fn answer(
         Ok(Parsed::Empty) => Ok(()),
         Ok(Parsed::One(command)) => act(desk, command, out),
         Ok(Parsed::Calc(kind)) => calculate(desk, kind, out),
-        Err(BadLine::Memory) => Err(Refusal::Memory),
-        Err(BadLine::Later) => answer_bad(out),
+        Err(fault) => answer_fault(&fault, out),
     }
 }
 
-/// Appends the reply to a line that is not of the known forms.
-pub fn answer_bad(out: &mut Vec<u8>) -> Result<(), Refusal>
-    ensures ok { (s : State) → OnOk result (out.new.items ≡ out.old.items ++ said_reply s None) }
+/// Appends the reply to a line that wasn't read; want of memory has none.
+fn answer_fault(fault: &BadLine, out: &mut Vec<u8>) -> Result<(), Refusal>
+    ensures ok { (s : State) → OnOk result ((fault.now ≢ BadLine.Memory)
+        × (out.new.items ≡ out.old.items ++ said_reply s (Err fault.now))) }
     ensures err { IfErr result (λ refusal. refusal ≡ Refusal.Memory) }
 {
-    bad_text("later", out)?;
+    match fault {
+        BadLine::Memory => Err(Refusal::Memory),
+        _ => answer_bad(fault, out),
+    }
+}
+
+/// Appends the reply to a bad line.
+pub fn answer_bad(fault: &BadLine, out: &mut Vec<u8>) -> Result<(), Refusal>
+    requires { fault.now ≢ BadLine.Memory }
+    ensures ok { (s : State) → OnOk result (out.new.items
+        ≡ out.old.items ++ said_reply s (Err fault.now)) }
+    ensures err { IfErr result (λ refusal. refusal ≡ Refusal.Memory) }
+{
+    append(b"bad ", out)?;
+    bad_word(fault, out)?;
+    append(b"\n", out)?;
     Ok(())
+}
+
+/// Appends bytes.
+fn append(bytes: &[u8], out: &mut Vec<u8>) -> Result<(), Memory>
+    ensures { OnOk result (out.new.items ≡ out.old.items ++ bytes.now) }
+{
+    match out.extend_from_slice(bytes) {
+        Ok(()) => Ok(()),
+        Err(_) => Err(Memory),
+    }
 }
 
 /// Acts on a command and appends the reply's lines.
@@ -82,7 +106,6 @@ fn act(
     command: Command,
     out: &mut Vec<u8>,
 ) -> Result<(), Refusal>
-    requires taken { IsDeskCommand command }
     requires form { IsInForm command }
     ensures step { (s : State) → Stands desk.old s → OnOk result
         ((out.new.items ≡ out.old.items ++ reply_text (reply_to program_terms [] s command))
@@ -96,8 +119,8 @@ fn act(
             reply_text(&reply, out)?;
             Ok(())
         }
-        Err(ActFault::Full(_)) => Err(Refusal::Full),
-        Err(ActFault::Memory(_)) => Err(Refusal::Memory),
+        Err(DeskFault::Full(_)) => Err(Refusal::Full),
+        Err(DeskFault::Memory(_)) => Err(Refusal::Memory),
     }
 }
 
@@ -108,11 +131,11 @@ fn calculate(
     out: &mut Vec<u8>,
 ) -> Result<(), Refusal>
     ensures step { (s : State) → Stands desk.old s → OnOk result
-        ((out.new.items ≡ out.old.items ++ said_reply s (Some (Parsed.Calc kind)))
-        × Stands desk.new (said_after s (Some (Parsed.Calc kind)))) }
+        ((out.new.items ≡ out.old.items ++ said_reply s (Ok (Parsed.Calc kind)))
+        × Stands desk.new (said_after s (Ok (Parsed.Calc kind)))) }
     ensures count { OnOk result (length desk.new.history ≡ length desk.old.history + 2) }
     ensures refused { (s : State) → Stands desk.old s → IfErr result
-        (IsRefused desk.old s (Some (Parsed.Calc kind)) out.old.items out.new.items) }
+        (IsRefused desk.old s (Ok (Parsed.Calc kind)) out.old.items out.new.items) }
 {
     act(desk, Command::Begin(kind), out)?;
     act(desk, Command::Settle, out)

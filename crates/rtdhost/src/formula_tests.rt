@@ -33,7 +33,7 @@ fn a_branch_that_is_not_taken_is_named(rt: HostRuntime) -> Result<(), Fail> {
 fn results_stay_whole_and_within_the_magnitude(rt: HostRuntime) -> Result<(), Fail> {
     let script = "set A1 =999999999999999+1\nset A2 =7/2\nset A3 =6/2\nset A4 =1/0\n\
         set A5 =-999999999999999\nset A6 =1000000000000000\ncalc\nprint\n";
-    let want = "ok\nok\nok\nok\nok\nbad later\nbegun 1\ndone 1 cells 5\n\
+    let want = "ok\nok\nok\nok\nok\nbad formula number\nbegun 1\ndone 1 cells 5\n\
         A1=#NUM!\nA2=#NUM!\nA3=3\nA4=#DIV/0!\nA5=-999999999999999\nend\n";
     plays(&rt, rt.alloc(), script, 1000, want)
 }

@@ -158,7 +158,7 @@ fn sums_take_constants_of_every_kind(rt: HostRuntime) -> Result<(), Fail> {
 fn cells_on_other_sheets(rt: HostRuntime) -> Result<(), Fail> {
     let script =
         "set sheet2!$A$1 1\nset Sheet2!B1 =A1+2\nset A1 'x\nset Sheet65!A1 1\nset Sheet2! 1\ncalc\nprint\n";
-    let want = "ok\nok\nok\nbad later\nbad later\nbegun 1\ndone 1 cells 1\n\
+    let want = "ok\nok\nok\nbad ref\nbad ref\nbegun 1\ndone 1 cells 1\n\
         A1=\"x\"\nSheet2!A1=1\nSheet2!B1=3\nend\n";
     plays(&rt, rt.alloc(), script, 1000, want)
 }
@@ -166,26 +166,26 @@ fn cells_on_other_sheets(rt: HostRuntime) -> Result<(), Fail> {
 #[test]
 fn contents_that_are_not_read(rt: HostRuntime) -> Result<(), Fail> {
     let contents = [
-        "",
-        "1000000000000000",
-        "-1000000000000000",
-        "00000000000000000000000000000001000000000000000",
-        "=",
-        "=A1+",
-        "=1.5",
-        "=A1:",
-        "=IF(1,,2)",
-        "=SUM(A1:XFD5)",
-        "=1000000000000000",
-        "a\tb",
-        "'a\u{7f}",
-        "\u{1}",
-        "TRUE\t",
+        ("", "value"),
+        ("1000000000000000", "value"),
+        ("-1000000000000000", "value"),
+        ("00000000000000000000000000000001000000000000000", "value"),
+        ("=", "formula syntax 1"),
+        ("=A1+", "formula syntax 4"),
+        ("=1.5", "formula syntax 2"),
+        ("=A1:", "formula syntax 4"),
+        ("=IF(1,,2)", "formula syntax 6"),
+        ("=SUM(A1:XFD5)", "formula range"),
+        ("=1000000000000000", "formula number"),
+        ("a\tb", "control"),
+        ("'a\u{7f}", "control"),
+        ("\u{1}", "control"),
+        ("TRUE\t", "control"),
     ];
-    for content in contents {
+    for (content, fault) in contents {
         let script = format!(in rt.alloc(); "set A1 {content}\ncalc\nprint\n")?;
-        let want = "bad later\nbegun 1\ndone 1 cells 0\nend\n";
-        plays(&rt, rt.alloc(), script.as_str(), 1000, want)?;
+        let want = format!(in rt.alloc(); "bad {fault}\nbegun 1\ndone 1 cells 0\nend\n")?;
+        plays(&rt, rt.alloc(), script.as_str(), 1000, want.as_str())?;
     }
     Ok(())
 }
@@ -194,9 +194,9 @@ fn contents_that_are_not_read(rt: HostRuntime) -> Result<(), Fail> {
 fn a_text_has_at_most_32767_characters(rt: HostRuntime) -> Result<(), Fail> {
     for (prefix, count, want) in [
         ("set A1 ", 32_767, "ok\n"),
-        ("set A1 ", 32_768, "bad later\n"),
+        ("set A1 ", 32_768, "bad value\n"),
         ("set A1 '", 32_767, "ok\n"),
-        ("set A1 '", 32_768, "bad later\n"),
+        ("set A1 '", 32_768, "bad value\n"),
     ] {
         let mut bytes = Vec::from_slice(rt.alloc(), prefix.as_bytes())?;
         bytes.extend_from_slice(vec![in rt.alloc(); b'x'; count]?.as_slice())?;
@@ -216,11 +216,9 @@ fn a_text_has_at_most_32767_characters(rt: HostRuntime) -> Result<(), Fail> {
 fn lines_of_other_forms_are_bad(rt: HostRuntime) -> Result<(), Fail> {
     let script =
         "jump\nset A1\nset XFE1 1\nset A1048577 1\nset A2 =7%2\nset  A1 1\n calc\ncalc \n\nset A1 1\n";
-    let bad =
-        "bad later\nbad later\nbad later\nbad later\nbad later\nbad later\nbad later\nbad later\n";
-    let mut want = String::from_str(rt.alloc(), bad)?;
-    want.push_str("ok\n")?;
-    plays(&rt, rt.alloc(), script, 1000, want.as_str())
+    let want = "bad word\nbad value\nbad ref\nbad ref\nbad formula syntax 2\nbad ref\nbad word\n\
+        bad value\nok\n";
+    plays(&rt, rt.alloc(), script, 1000, want)
 }
 
 #[test]
@@ -230,7 +228,7 @@ fn a_line_that_is_too_long_is_bad(rt: HostRuntime) -> Result<(), Fail> {
     let mut src = MemorySource::new(bytes, 1000, Vec::new(rt.alloc()));
     let mut out = MemorySink::new(rt.alloc(), 1, Vec::new(rt.alloc()));
     assert_eq!(rt; run(rt.alloc(), &mut src, &mut out)?, Status::Ok);
-    assert_eq!(rt; out.written(), b"bad later\nbad later\nok\n".as_slice());
+    assert_eq!(rt; out.written(), b"bad long\nbad utf8\nok\n".as_slice());
     Ok(())
 }
 

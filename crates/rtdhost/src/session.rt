@@ -17,6 +17,7 @@ use cell_values::Memory;
 use host_core::{Host, PlainDesk};
 use host_io::{Line, LineFault, Lines, RunFault, Sink, Source, put};
 use rtd_server::FeedMaker;
+use session_script::BadLine;
 use std::alloc::Global;
 
 /// A reader of lines, the desk that acts on them, and the answer to the line that was read last.
@@ -160,7 +161,7 @@ impl Session {
                 text.as_slice(),
                 &mut self.replies,
             )?,
-            Line::TooLong => answer_bad(&mut self.replies)?,
+            Line::TooLong => answer_bad(&BadLine::Long, &mut self.replies)?,
             Line::End => return Ok(false),
         }
         Ok(true)
