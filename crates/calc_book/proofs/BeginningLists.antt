@@ -6,17 +6,15 @@ use Rattle.std.proofs.lemmas.Map.Keys.{IsDistinct-head, IsDistinct-tail, IsDisti
 use Rattle.book_sync.specs.Following.{ShowsWhereClean, TableFollows}
 use Rattle.calc_book.specs.Begun.{AreBoth}
 use Rattle.calc_book.specs.CalcState.{CalcState}
-use Rattle.calc_book.specs.Keeping.{Answers, AtRest, InRound}
+use Rattle.calc_book.specs.Keeping.{AtRest, Holds, InRound}
 use Rattle.calc_book.specs.declared.calc_books.CalcBook.{CalcBook}
-use Rattle.calc_round.specs.Rounds.{topic_setting}
+use Rattle.cell_chain.specs.CellOrder.{entries_among}
 use Rattle.cell_refs.specs.declared.areas.Area.{Area}
 use Rattle.cell_refs.specs.declared.grid.Cell.{Cell}
 use Rattle.cell_refs.specs.Cell.{is_among, same_cell}
 use Rattle.cell_refs.specs.Reaching.{Reaches, reaches}
 use Rattle.cell_refs.proofs.PublicLaws.{same_cell_is}
 use Rattle.cell_store.specs.Store.{StoreState}
-use Rattle.cell_values.specs.declared.topics.Topic.{Topic}
-use Rattle.cell_values.specs.declared.values.Value.{Value}
 use Rattle.workbook.specs.declared.contents.Content.{Content}
 use Rattle.workbook.specs.Agreement.{IsAlikeBesideChanged}
 use Rattle.workbook.specs.Book.{IsInOrder, cell_precedents, content_at, formula_count, is_formula}
@@ -119,38 +117,39 @@ forgotten-cells book same keys changed marks both is alike marked are q =
     ∙ ap (λ b. is_stale same changed q || b) (alike q)
 
 -- ---- of the changed cells of a state it matters alone which they are
-pub rest-alike : (answer : Answers) (b : CalcBook) (s : CalcState) (same : List Cell) → AreAlike s.changed same → AtRest answer b s → AtRest answer b (record s { changed = same })
-rest-alike answer b s same alike rest = record {
-  holds = record {
-    book = rest.holds.book;
-    plain = rest.holds.plain;
-    ordered = rest.holds.ordered;
-    completed = rest.holds.completed;
-    changed = λ q. rest.holds.changed q ∙ alike q;
-    chain = rest.holds.chain;
-    shown = rest.holds.shown;
-  };
+holds-alike : (b : CalcBook) (s : CalcState) (same : List Cell) → AreAlike s.changed same → Holds b s → Holds b (record s { changed = same })
+holds-alike b s same alike holds = record {
+  session = holds.session;
+  book = holds.book;
+  functions = holds.functions;
+  ordered = holds.ordered;
+  completed = holds.completed;
+  changed = λ q. holds.changed q ∙ alike q;
+  chain = holds.chain;
+  shown = holds.shown;
+  closed = holds.closed;
+}
+
+pub rest-alike : (b : CalcBook) (s : CalcState) (same : List Cell) → AreAlike s.changed same → AtRest b s → AtRest b (record s { changed = same })
+rest-alike b s same alike rest = record {
+  holds = holds-alike b s same alike rest.holds;
   table = table-alike s.book s.changed same b.table alike rest.table;
   clean = shows-alike s.book s.changed same b.store alike rest.clean;
   others = λ q none. rest.others q (alike q ∙ none);
+  calls = rest.calls;
 }
 
-pub round-alike : (answer : Answers) (now : Topic → Value) (b : CalcBook) (s : CalcState) (same : List Cell) → AreAlike s.changed same → InRound answer now b s → InRound answer now b (record s { changed = same })
-round-alike answer now b s same alike round = record {
-  holds = record {
-    book = round.holds.book;
-    plain = round.holds.plain;
-    ordered = round.holds.ordered;
-    completed = round.holds.completed;
-    changed = λ q. round.holds.changed q ∙ alike q;
-    chain = round.holds.chain;
-    shown = round.holds.shown;
-  };
-  table = round.table;
-  marked = λ q. round.marked q ∙ stale-alike s.book s.changed same alike q;
-  working = round.working;
-  clean = shows-alike s.book s.changed same b.store alike round.clean;
-  alike = alike-more (topic_setting answer s.snapshot) (topic_setting answer now) s.completed s.book s.changed same (λ q h. sym (alike q) ∙ h) round.alike;
+pub round-alike : (now : Setting) (round : ℕ) (b : CalcBook) (s : CalcState) (same : List Cell) → AreAlike s.changed same → InRound now round b s
+    → InRound now round b (record s { changed = same })
+round-alike now round b s same alike running = record {
+  holds = holds-alike b s same alike running.holds;
+  table = running.table;
+  marked = λ q. running.marked q ∙ stale-alike s.book s.changed same alike q;
+  working = running.working;
+  idle = running.idle;
+  room = running.room;
+  clean = shows-alike s.book s.changed same b.store alike running.clean;
+  alike = alike-more s.setting now s.completed s.book s.changed same (λ q h. sym (alike q) ∙ h) running.alike;
 }
 
 -- ---- cells that are filtered
@@ -187,3 +186,12 @@ distinct-filter p (x ∷ xs) d =
       | true ↦ IsDistinct-cons same_cell x (filter p xs) (all_filtered (λ y. same_cell x y ≡ false) p xs (IsDistinct-head same_cell x xs d)) rest
       | false ↦ rest
     ]
+
+-- ---- none
+pub none-once : IsDistinct same_cell []
+unfolding IsDistinct
+none-once = tt
+
+pub none-among : (entries : List Cell) → entries_among entries [] ≡ []
+none-among [] = refl
+none-among (entry ∷ entries) = none-among entries

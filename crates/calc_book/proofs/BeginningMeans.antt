@@ -1,14 +1,15 @@
 -- What is present where a store follows a book has its meaning, and what has no value yet is stale or circular.
-use Rattle.std.proofs.Common.{◌≡◌, ℕ, zero, suc, Bool, true, false, not, cond, ◌||◌, ◌&&◌, List, [], Option, None, Some, flat_map, ⊎_elim, refl, ap, sym, subst, ◌∙◌}
+use Rattle.std.proofs.Common.{◌≡◌, ℕ, zero, suc, Bool, true, false, not, cond, ◌||◌, List, [], Option, None, Some, flat_map, ⊎_elim, refl, ap, sym, subst, ◌∙◌}
 use Rattle.std.specs.Option.{is_some, option_map, unwrap_or}
+use Rattle.std.proofs.lemmas.Option.{none-some}
 use Rattle.std.proofs.lemmas.Bool.{or_cases, or_left, or_right, and_parts, and_from}
 use Rattle.book_sync.specs.Following.{FollowsChanged, ShowsWhereClean, TableFollows, present_by_content}
-use Rattle.calc_book.specs.Begun.{IsRewound, names_itself}
+use Rattle.async_handles.specs.declared.open_calls.OpenCall.{OpenCall}
+use Rattle.async_handles.specs.OpenCalls.{call_at}
+use Rattle.calc_book.specs.Begun.{AreDue, names_itself}
 use Rattle.calc_book.specs.Keeping.{shown_in}
-use Rattle.calc_book.proofs.BeginningLists.{among-filter, distinct-filter, unreached}
-use Rattle.calc_round.specs.Rounds.{IsWorking, PresentMeans, is_unfinished}
-use Rattle.cell_chain.specs.CellOrder.{CellOrder, IsCellChain, entries_among}
-use Rattle.cell_chain.proofs.PublicLaws.{among-entries_among}
+use Rattle.calc_book.proofs.BeginningLists.{among-filter, unreached}
+use Rattle.calc_round.specs.Rounds.{IsWorking, PresentMeans, has_call, is_unfinished}
 use Rattle.cell_refs.specs.declared.areas.Area.{Area}
 use Rattle.cell_refs.specs.declared.grid.Cell.{Cell}
 use Rattle.cell_refs.specs.Area.{cells_of}
@@ -28,9 +29,9 @@ use Rattle.workbook.specs.Book.{IsInOrder, by_content, cell_precedents, content_
 use Rattle.workbook.specs.Circular.{is_circular, walks_on}
 use Rattle.workbook.specs.Evaluation as evaluation
 use Rattle.workbook.specs.Evaluation.{answer_of}
-use Rattle.workbook.specs.Meaning.{Setting, Meaning, Val, Circ, Asks, Open, content_meaning, is_open, meaning, meaning_of_answer, shown_value, value_in, world_at}
+use Rattle.workbook.specs.Meaning.{Setting, Meaning, Val, Circ, Asks, Open, asks_call, content_meaning, is_open, meaning, meaning_of_answer, shown_value, value_in, world_at}
 use Rattle.workbook.specs.Stale.{is_stale}
-use Rattle.workbook.proofs.PublicLaws.{circular_or_valued, meaning-unfolds, meaning_between, reaches-among, walks-formula}
+use Rattle.workbook.proofs.PublicLaws.{all_closed, meaning-unfolds, meaning_between, reaches-among, walks-formula}
 use Rattle.std.specs.List.{IsDistinct, filter, list_any}
 
 not_both : (b : Bool) → b ≡ true → b ≡ false → ⊥
@@ -101,6 +102,15 @@ constant-valued setting cell meanings (Some (contents.Bool b)) h = (values.Bool 
 constant-valued setting cell meanings (Some (contents.Error e)) h = (values.Error e, refl)
 constant-valued setting cell meanings (Some (contents.Formula tree)) h = absurd (cc)
 
+constant-alike : (earlier later : Setting) (cell : Cell) (one other : Cell → Meaning) (o : Option Content) → has_formula o ≡ false
+    → content_meaning earlier cell one o ≡ content_meaning later cell other o
+constant-alike earlier later cell one other None h = refl
+constant-alike earlier later cell one other (Some (contents.Num n)) h = refl
+constant-alike earlier later cell one other (Some (contents.Text t)) h = refl
+constant-alike earlier later cell one other (Some (contents.Bool b)) h = refl
+constant-alike earlier later cell one other (Some (contents.Error e)) h = refl
+constant-alike earlier later cell one other (Some (contents.Formula tree)) h = absurd (cc)
+
 constant-present : (setting : Setting) (cell : Cell) (meanings : Cell → Meaning) (o : Option Content) (v : Value) → present_by_content o ≡ Some (Some v)
     → content_meaning setting cell meanings o ≡ Val v
 constant-present setting cell meanings None v h = cc
@@ -133,6 +143,13 @@ content-acyclic setting cell meanings (Some (contents.Error e)) h = cc
 content-acyclic setting cell meanings (Some (contents.Formula tree)) h =
     answer-acyclic (list_any (λ d. is_open (meanings d)) (precedents tree cell.sheet)) (answer_of (world_at setting cell (λ d. value_in (meanings d))) tree) h
 
+-- a meaning that doesn't wait is a value, or circular
+valueless : (m : Meaning) → is_open m ≡ false → ((v : Value) → m ≡ Val v → ⊥) → (m ≡ Circ → ⊥) → ⊥
+valueless (Val v) closed lacks acyclic = lacks v refl
+valueless Circ closed lacks acyclic = acyclic refl
+valueless (Asks site name args) closed lacks acyclic = let no : true ≡ false = closed in cc
+valueless Open closed lacks acyclic = let no : true ≡ false = closed in cc
+
 module _ (book : List (Cell × Content)) (ordered : IsInOrder book) where
   constant-walks : (cell : Cell) → is_formula book cell ≡ false → is_circular book cell ≡ false
   constant-walks cell constant = elim (is_circular book cell) as (λ b. is_circular book cell ≡ b → b ≡ false) [
@@ -144,24 +161,38 @@ module _ (book : List (Cell × Content)) (ordered : IsInOrder book) where
   constant-means : (setting : Setting) (cell : Cell) → is_formula book cell ≡ false → meaning setting book cell ≡ content_meaning setting cell (meaning setting book) (content_at book cell)
   constant-means setting cell constant = meaning-unfolds setting book ordered cell (constant-walks cell constant)
 
-  -- a cell that means no value is circular, where no name is registered
-  valueless-circular : (setting : Setting) → ((name : List ℕ) → setting.registered name ≡ None) → (cell : Cell) → ((v : Value) → meaning setting book cell ≡ Val v → ⊥) → is_circular book cell ≡ true
-  valueless-circular setting none cell lacks = elim (is_circular book cell) as (λ b. is_circular book cell ≡ b → b ≡ true) [
+  -- in any setting
+  pub constant-same : (earlier later : Setting) (cell : Cell) → is_formula book cell ≡ false → (v : Value) → meaning earlier book cell ≡ Val v → meaning later book cell ≡ Val v
+  constant-same earlier later cell constant v means =
+      constant-means later cell constant
+      ∙ constant-alike later earlier cell (meaning later book) (meaning earlier book) (content_at book cell) constant
+      ∙ sym (constant-means earlier cell constant) ∙ means
+
+  -- a cell that asks has a formula
+  pub asks-formula : (setting : Setting) (cell : Cell) → asks_call (meaning setting book cell) ≡ true → is_formula book cell ≡ true
+  asks-formula setting cell asks = elim (is_formula book cell) as (λ b. is_formula book cell ≡ b → b ≡ true) [
     | true ↦ λ _. refl
-    | false ↦ λ acyclic. absurd (⊎_elim
-        (λ circ. content-acyclic setting cell (meaning setting book) (content_at book cell) (sym (meaning-unfolds setting book ordered cell acyclic) ∙ circ))
-        (λ valued. lacks valued.0 valued.1)
-        (circular_or_valued setting none book cell))
+    | false ↦ λ constant.
+        let valued = constant-valued setting cell (meaning setting book) (content_at book cell) constant in
+        absurd (not_both (asks_call (meaning setting book cell)) asks (ap asks_call (constant-means setting cell constant ∙ valued.1)))
+  ] refl
+
+  -- a cell that means no value and doesn't wait is circular
+  valueless-circular : (setting : Setting) (cell : Cell) → is_open (meaning setting book cell) ≡ false → ((v : Value) → meaning setting book cell ≡ Val v → ⊥) → is_circular book cell ≡ true
+  valueless-circular setting cell closed lacks = elim (is_circular book cell) as (λ b. is_circular book cell ≡ b → b ≡ true) [
+    | true ↦ λ _. refl
+    | false ↦ λ acyclic. absurd (valueless (meaning setting book cell) closed lacks
+        (λ circ. content-acyclic setting cell (meaning setting book) (content_at book cell) (sym (meaning-unfolds setting book ordered cell acyclic) ∙ circ)))
   ] refl
 
   -- ---- a store that follows the book
   module _
       (earlier later : Setting)
-      (none : (name : List ℕ) → later.registered name ≡ None)
       (completed : List (Cell × Content))
       (changed : List Cell)
       (before now : StoreState)
       (completed_ordered : IsInOrder completed)
+      (closed : (q : Cell) → asks_call (meaning earlier completed q) ≡ false)
       (shown : (q : Cell) → shown_at before q ≡ shown_in earlier completed q)
       (clean : ShowsWhereClean book changed before)
       (alike : IsAlikeBesideChanged earlier later completed book changed)
@@ -199,6 +230,12 @@ module _ (book : List (Cell × Content)) (ordered : IsInOrder book) where
           → (v : Value) → meaning later book q ≡ Val v → ⊥
       clean-lacks q fresh unchanged h = shown-lacks _ (content_at book q) (ap has_no_value (sym (clean-present q fresh unchanged)) ∙ h)
 
+      -- nor does it wait
+      clean-closed : (q : Cell) → is_stale book changed q ≡ false → is_among changed q ≡ false → is_open (meaning later book q) ≡ false
+      clean-closed q fresh unchanged =
+          ap is_open (sym (meaning_between earlier later completed book changed completed_ordered ordered alike q unchanged fresh))
+          ∙ all_closed earlier completed completed_ordered closed q
+
       changed-formula : (q : Cell) → is_among changed q ≡ true → is_unfinished now q ≡ true → is_formula book q ≡ true
       changed-formula q here h = sym (content-lacks (content_at book q)) ∙ ap has_no_value (sym (follows q here)) ∙ h
 
@@ -221,7 +258,7 @@ module _ (book : List (Cell × Content)) (ordered : IsInOrder book) where
       followed-left q h = three _ (is_stale book changed q) (is_among changed q)
           (λ s. or_right (is_circular book q) _ s)
           (λ fresh here. or_right (is_circular book q) _ (and_from _ _ (changed-formula q here h) (reaches-among book ordered changed (formula_count book) q here)))
-          (λ fresh unchanged. or_left _ (is_stale book changed q) (valueless-circular later none q (clean-lacks q fresh unchanged h)))
+          (λ fresh unchanged. or_left _ (is_stale book changed q) (valueless-circular later q (clean-closed q fresh unchanged) (clean-lacks q fresh unchanged h)))
 
 -- ---- a cell that names itself
 walks-itself : (book : List (Cell × Content)) (cell : Cell) → is_formula book cell ≡ true → is_among (cell_precedents book cell) cell ≡ true → (n : ℕ) → walks_on book n cell ≡ true
@@ -255,53 +292,41 @@ itself-circular book table follows cell formula names =
     walks-itself book cell formula (ap (λ cells. is_among cells cell) (sym alike) ∙ precedents-lies_in table cell cell ∙ names) (formula_count book)
 
 -- ---- the recalculation of marked cells
-within : (entry mark other : Bool) → (mark ≡ true → entry ≡ true) → (entry && (mark && other)) ≡ (mark && other)
-within true mark other leads = refl
-within false true other leads = absurd (let e : false ≡ true = leads refl in cc)
-within false false other leads = refl
-
--- a cell that is to be due is an entry
-pub due-entry : (table : List (Cell × List Area)) (marks due entries : List Cell) → due ≡ filter (λ c. not (names_itself table c)) marks
-    → ((q : Cell) → is_among marks q ≡ true → is_among entries q ≡ true) → (q : Cell) → is_among due q ≡ true → is_among entries q ≡ true
-due-entry table marks due entries is leads q h =
-    leads q (and_parts (is_among marks q) _ (sym (ap (λ cells. is_among cells q) is ∙ among-filter (λ c. not (names_itself table c)) marks q) ∙ h)).0
-
--- a chain in which they are due
-pub rewound : (table : List (Cell × List Area)) (marks due : List Cell) (old new : CellOrder) → due ≡ filter (λ c. not (names_itself table c)) marks
-    → ((q : Cell) → is_among marks q ≡ true → is_among old.entries q ≡ true)
-    → new ≡ record old { due = entries_among old.entries due } → IsCellChain new → IsRewound table marks old new
-rewound table marks due old new is leads made chain = record {
-  entries = ap (λ (c : CellOrder). c.entries) made;
-  chain = chain;
-  due = λ q.
-      ap (λ (c : CellOrder). is_among c.due q) made
-      ∙ among-entries_among old.entries due q
-      ∙ ap (λ b. is_among old.entries q && b) (ap (λ cells. is_among cells q) is ∙ among-filter (λ c. not (names_itself table c)) marks q)
-      ∙ within (is_among old.entries q) (is_among marks q) (not (names_itself table q)) (leads q);
+-- the marked cells that don't name themselves are due
+pub are-due : (table : List (Cell × List Area)) (marks due waiting : List Cell) → waiting ≡ due → due ≡ filter (λ c. not (names_itself table c)) marks → IsDistinct same_cell due
+    → AreDue table marks waiting
+are-due table marks due waiting same is once = record {
+  once = subst (IsDistinct same_cell) (sym same) once;
+  marked = λ q. ap (λ cells. is_among cells q) (same ∙ is) ∙ among-filter (λ c. not (names_itself table c)) marks q;
 }
 
-module _ (setting : Setting) (book : List (Cell × Content)) (store : StoreState) (table : List (Cell × List Area)) (marks : List Cell) (old new : CellOrder)
-    (ordered : IsInOrder book) (follows : TableFollows book [] table) (means : PresentMeans setting book store) (rewound : IsRewound table marks old new)
-    (entries : (q : Cell) → is_among marks q ≡ true → is_among old.entries q ≡ true)
+module _ (setting : Setting) (round : ℕ) (book : List (Cell × Content)) (store : StoreState) (table : List (Cell × List Area)) (marks entries due : List Cell) (calls : List OpenCall)
+    (ordered : IsInOrder book) (follows : TableFollows book [] table) (means : PresentMeans setting book store) (once : IsDistinct same_cell entries) (are : AreDue table marks due)
+    (none : calls ≡ [])
+    (stand : (q : Cell) → is_among marks q ≡ true → is_among entries q ≡ true)
     (unfinished : (q : Cell) → is_among marks q ≡ true → is_unfinished store q ≡ true)
     (touched : (q : Cell) → is_among marks q ≡ true → is_touched store q ≡ true)
     (left : (q : Cell) → is_unfinished store q ≡ true → (is_circular book q || is_among marks q) ≡ true) where
-  marked : (q : Cell) → is_among new.due q ≡ true → is_among marks q ≡ true
-  marked q h = (and_parts (is_among marks q) _ (sym (rewound.due q) ∙ h)).0
+  marked : (q : Cell) → is_among due q ≡ true → is_among marks q ≡ true
+  marked q h = (and_parts (is_among marks q) _ (sym (are.marked q) ∙ h)).0
 
-  due_or_circular : (q : Cell) → is_unfinished store q ≡ true → is_among marks q ≡ true → (is_circular book q || is_among new.due q) ≡ true
-  due_or_circular q h mark = elim (names_itself table q) as (λ b. names_itself table q ≡ b → (is_circular book q || is_among new.due q) ≡ true) [
+  no-call : (q : Cell) → call_at calls q ≡ None
+  no-call q = ap (λ (es : List OpenCall). call_at es q) none
+
+  due_or_circular : (q : Cell) → is_unfinished store q ≡ true → is_among marks q ≡ true → (is_circular book q || (is_among due q || has_call calls q)) ≡ true
+  due_or_circular q h mark = elim (names_itself table q) as (λ b. names_itself table q ≡ b → (is_circular book q || (is_among due q || has_call calls q)) ≡ true) [
     | true ↦ λ names. or_left _ _ (itself-circular book table follows q (means.formula q h) names)
-    | false ↦ λ others. or_right (is_circular book q) _ (rewound.due q ∙ and_from _ _ mark (ap not others))
+    | false ↦ λ others. or_right (is_circular book q) _ (or_left _ (has_call calls q) (are.marked q ∙ and_from _ _ mark (ap not others)))
   ] refl
 
-  pub marked-working : IsWorking setting book store new.entries new.due
+  pub marked-working : IsWorking setting book store entries due calls round
   marked-working = record {
     means = means;
     ordered = ordered;
-    entries_once = rewound.chain.once;
-    pending_once = subst (IsDistinct same_cell) rewound.chain.due (distinct-filter (is_among new.due) new.entries rewound.chain.once);
-    pending_open = λ q h. and_from _ _ (ap (λ cells. is_among cells q) rewound.entries ∙ entries q (marked q h)) (unfinished q (marked q h));
+    entries_once = once;
+    pending_once = are.once;
+    pending_open = λ q h. and_from _ _ (stand q (marked q h)) (and_from _ _ (unfinished q (marked q h)) (ap (λ o. not (is_some o)) (no-call q)));
     touched = λ q h. touched q (marked q h);
+    asked = λ q entry h. absurd (none-some entry (sym (no-call q) ∙ h));
     left = λ q h. ⊎_elim (λ circular. or_left _ _ circular) (due_or_circular q h) (or_cases (is_circular book q) (is_among marks q) (left q h));
   }

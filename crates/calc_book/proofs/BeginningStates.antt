@@ -5,14 +5,15 @@ use Rattle.std.specs.BTreeSet.{BTreeSet}
 use Rattle.std.proofs.lemmas.Bool.{or_left, or_right}
 use Rattle.std.proofs.lemmas.List.Folds.{list_any-append}
 use Rattle.book_sync.specs.Following.{FollowsChanged, ShowsWhereClean, TableFollows}
-use Rattle.calc_book.specs.Begun.{AreAllChanged, AreBoth, IsRewound}
+use Rattle.calc_book.specs.Begun.{AreAllChanged, AreBoth, AreDue, IsIdle, KeepsCalls}
 use Rattle.calc_book.specs.CalcState.{CalcState, calc_begin}
-use Rattle.calc_book.specs.Keeping.{Answers, AtRest, InRound, IsAlikeNow, NotesCleanReaders, ReadsInRound, is_forgotten}
+use Rattle.calc_book.specs.Keeping.{AtRest, InRound, IsAlikeNow, NotesCleanReaders, ReadsInRound, is_forgotten}
 use Rattle.calc_book.specs.declared.calc_books.CalcBook.{CalcBook}
 use Rattle.calc_book.proofs.BeginningLists.{AreAlike, AreWithin, alike-itself, alike-more, forgotten-cells, reaches-more, rest-alike, round-alike, shows-alike, table-alike}
-use Rattle.calc_book.proofs.BeginningMeans.{followed-left, followed-means, formula-some, marked-working, table-readers}
+use Rattle.calc_book.proofs.BeginningMeans.{constant-same, followed-left, followed-means, formula-some, marked-working, table-readers}
 use Rattle.calc_book.proofs.Readings.{begun-reads}
-use Rattle.calc_round.specs.Rounds.{PresentMeans, is_unfinished, topic_setting}
+use Rattle.calc_round.specs.Rounds.{HasRoom, PresentMeans, is_unfinished}
+use Rattle.calc_round.specs.declared.open_work.OpenWork.{OpenWork}
 use Rattle.cell_chain.specs.CellOrder.{CellOrder}
 use Rattle.cell_refs.specs.declared.areas.Area.{Area}
 use Rattle.cell_refs.specs.declared.grid.Cell.{Cell}
@@ -20,15 +21,13 @@ use Rattle.cell_refs.specs.Cell.{is_among}
 use Rattle.cell_refs.specs.Reaching.{Reaches}
 use Rattle.cell_store.specs.Gathering.{has_no_value}
 use Rattle.cell_store.specs.Store.{KeepsPresent, KeepsShown, StoreState, is_touched, present_at, shown_at}
-use Rattle.cell_values.specs.declared.topics.Topic.{Topic}
-use Rattle.cell_values.specs.declared.values.Value.{Value}
 use Rattle.dep_table.specs.Table.{is_reader}
 use Rattle.topic_source.specs.Source.{SourceState}
 use Rattle.workbook.specs.declared.commands.BeginKind.{BeginKind}
 use Rattle.workbook.specs.declared.commands.BeginKind.TheVariants as kinds
 use Rattle.workbook.specs.declared.contents.Content.{Content}
 use Rattle.workbook.specs.Agreement.{IsAlikeBesideChanged}
-use Rattle.workbook.specs.Book.{cell_precedents, content_at, formula_cells, formula_count, is_formula}
+use Rattle.workbook.specs.Book.{IsInOrder, cell_precedents, content_at, formula_cells, formula_count, is_formula}
 use Rattle.workbook.specs.Circular.{is_circular}
 use Rattle.workbook.specs.Meaning.{Setting, Val, meaning}
 use Rattle.workbook.specs.Stale.{is_stale, reaches}
@@ -40,17 +39,21 @@ pub ok-leads : {A E : Type 0} (r : Result A E) (P Q : Type 0) → (P → Q) → 
 ok-leads (Ok x) P Q leads h = leads h
 ok-leads (Err e) P Q leads h = tt
 
-pub ok-both : {A E : Type 0} (r : Result A E) (P P' Q : Type 0) → (P → P' → Q) → OnOk r P → OnOk r P' → OnOk r Q
-ok-both (Ok x) P P' Q leads h k = leads h k
-ok-both (Err e) P P' Q leads h k = tt
+pub ok-four : {A E : Type 0} (r : Result A E) (P P' P'' Q : Type 0) → (P → P' → P'' → Q) → OnOk r P → OnOk r P' → OnOk r P'' → OnOk r Q
+ok-four (Ok x) P P' P'' Q leads h k l = leads h k l
+ok-four (Err e) P P' P'' Q leads h k l = tt
 
-pub if-on : {A E : Type 0} (r : Result A E) (R : Type 0) (P Q : A → Type 0) → (R → (x : A) → P x → Q x) → OnOk r R → IfOk r P → IfOk r Q
-if-on (Ok x) R P Q leads k h = leads k x h
-if-on (Err e) R P Q leads k h = tt
+pub ok-five : {A E : Type 0} (r : Result A E) (R S T U Q : Type 0) → (R → S → T → U → Q) → OnOk r R → OnOk r S → OnOk r T → OnOk r U → OnOk r Q
+ok-five (Ok x) R S T U Q leads h k l m = leads h k l m
+ok-five (Err e) R S T U Q leads h k l m = tt
 
-pub if-both : {A E : Type 0} (r : Result A E) (R S : Type 0) (P Q : A → Type 0) → (R → S → (x : A) → P x → Q x) → OnOk r R → OnOk r S → IfOk r P → IfOk r Q
-if-both (Ok x) R S P Q leads k l h = leads k l x h
-if-both (Err e) R S P Q leads k l h = tt
+pub if-four : {A E : Type 0} (r : Result A E) (R S T : Type 0) (P Q : A → Type 0) → (R → S → T → (x : A) → P x → Q x) → OnOk r R → OnOk r S → OnOk r T → IfOk r P → IfOk r Q
+if-four (Ok x) R S T P Q leads k l m h = leads k l m x h
+if-four (Err e) R S T P Q leads k l m h = tt
+
+pub if-five : {A E : Type 0} (r : Result A E) (R S T U : Type 0) (P Q : A → Type 0) → (R → S → T → U → (x : A) → P x → Q x) → OnOk r R → OnOk r S → OnOk r T → OnOk r U → IfOk r P → IfOk r Q
+if-five (Ok x) R S T U P Q leads k l m n h = leads k l m n x h
+if-five (Err e) R S T U P Q leads k l m n h = tt
 
 pub err-leads : {A E : Type 0} (r : Result A E) (P Q : Type 0) → (P → Q) → OnErr r P → OnErr r Q
 err-leads (Ok x) P Q leads h = tt
@@ -68,21 +71,22 @@ err-anyway (Err e) P h = h
 abbrev own_state : CalcBook → CalcState → CalcState
 own_state b s = record s { book = b.book.contents; changed = b.changed.keys }
 
-rest-own : (answer : Answers) (b : CalcBook) (s : CalcState) → AtRest answer b s → AtRest answer b (own_state b s)
-rest-own answer b s rest =
-    subst (λ book. AtRest answer b (record s { book = book; changed = b.changed.keys })) (sym rest.holds.book)
-    (rest-alike answer b s b.changed.keys (λ q. sym (rest.holds.changed q)) rest)
+rest-own : (b : CalcBook) (s : CalcState) → AtRest b s → AtRest b (own_state b s)
+rest-own b s rest =
+    subst (λ book. AtRest b (record s { book = book; changed = b.changed.keys })) (sym rest.holds.book)
+    (rest-alike b s b.changed.keys (λ q. sym (rest.holds.changed q)) rest)
 
-alike-own : (answer : Answers) (now : Topic → Value) (b : CalcBook) (s : CalcState) → b.book.contents ≡ s.book → AreAlike b.changed.keys s.changed → IsAlikeNow answer now s → IsAlikeNow answer now (own_state b s)
-alike-own answer now b s is same alike =
-    subst (λ book. IsAlikeNow answer now (record s { book = book; changed = b.changed.keys })) (sym is)
-    (alike-more (topic_setting answer s.snapshot) (topic_setting answer now) s.completed s.book s.changed b.changed.keys (λ q h. same q ∙ h) alike)
+alike-own : (now : Setting) (b : CalcBook) (s : CalcState) (keys changed : List Cell) → b.book.contents ≡ s.book → AreAlike keys changed → IsAlikeNow now (record s { changed = changed })
+    → IsAlikeBesideChanged s.setting now s.completed b.book.contents keys
+alike-own now b s keys changed is same alike =
+    subst (λ book. IsAlikeBesideChanged s.setting now s.completed book keys) (sym is)
+    (alike-more s.setting now s.completed s.book changed keys (λ q h. same q ∙ h) alike)
 
-round-of : (answer : Answers) (now : Topic → Value) (b : CalcBook) (s : CalcState) → b.book.contents ≡ s.book → AreAlike b.changed.keys s.changed
-    → InRound answer now b (own_state b s) → InRound answer now b s
-round-of answer now b s is alike round =
-    subst (λ book. InRound answer now b (record s { book = book })) is
-    (round-alike answer now b (own_state b s) s.changed alike round)
+round-of : (now : Setting) (round : ℕ) (b : CalcBook) (s : CalcState) → b.book.contents ≡ s.book → AreAlike b.changed.keys s.changed
+    → InRound now round b (own_state b s) → InRound now round b s
+round-of now round b s is alike running =
+    subst (λ book. InRound now round b (record s { book = book })) is
+    (round-alike now round b (own_state b s) s.changed alike running)
 
 -- ---- which cells are changed at a begin
 pub changed-dirty : (kind : BeginKind) → kind ≡ kinds.Dirty → (book : List (Cell × Content)) (changed : List Cell) → changed ≡ changed_at_begin kind book changed
@@ -102,7 +106,7 @@ stale_as : (f r : Bool) → (f ≡ true → r ≡ true) → f ≡ (f && r)
 stale_as true r leads = sym (leads refl)
 stale_as false r leads = refl
 
-module _ (setting : Setting) (book : List (Cell × Content)) (entries : List Cell) (mid new : StoreState)
+module _ (earlier later : Setting) (book : List (Cell × Content)) (ordered : IsInOrder book) (entries : List Cell) (mid new : StoreState)
     (cells : (q : Cell) → is_among entries q ≡ is_formula book q)
     (present : (q : Cell) → present_at new q ≡ cond (is_among entries q) (Some None) (present_at mid q)) where
   at_entry : (q : Cell) → is_among entries q ≡ true → present_at new q ≡ Some None
@@ -111,16 +115,16 @@ module _ (setting : Setting) (book : List (Cell × Content)) (entries : List Cel
   off_entry : (q : Cell) → is_among entries q ≡ false → present_at new q ≡ present_at mid q
   off_entry q e = present q ∙ ap (λ a. cond a (Some None) (present_at mid q)) e
 
-  -- where no formula cell has a value, what is present still has its meaning
-  emptied-means : PresentMeans setting book mid → PresentMeans setting book new
+  -- where no formula cell has a value, what is present has its meaning in any setting, as constants mean the same
+  emptied-means : PresentMeans earlier book mid → PresentMeans later book new
   emptied-means means = record {
     content = λ q. elim (is_among entries q) as (λ a. is_among entries q ≡ a → is_some (present_at new q) ≡ is_some (content_at book q)) [
       | true ↦ λ e. ap is_some (at_entry q e) ∙ sym (formula-some (content_at book q) (sym (cells q) ∙ e))
       | false ↦ λ e. ap is_some (off_entry q e) ∙ means.content q
     ] refl;
-    value = λ q v h. elim (is_among entries q) as (λ a. is_among entries q ≡ a → meaning setting book q ≡ Val v) [
+    value = λ q v h. elim (is_among entries q) as (λ a. is_among entries q ≡ a → meaning later book q ≡ Val v) [
       | true ↦ λ e. let no : Some None ≡ Some (Some v) = sym (at_entry q e) ∙ h in cc
-      | false ↦ λ e. means.value q v (sym (off_entry q e) ∙ h)
+      | false ↦ λ e. constant-same book ordered earlier later q (sym (cells q) ∙ e) v (means.value q v (sym (off_entry q e) ∙ h))
     ] refl;
     formula = λ q h. elim (is_among entries q) as (λ a. is_among entries q ≡ a → is_formula book q ≡ true) [
       | true ↦ λ e. sym (cells q) ∙ e
@@ -140,57 +144,59 @@ pub record HasCaughtUp (book : List (Cell × Content)) (keys : List Cell) (table
   pub stale : (q : Cell) → is_stale book keys q ≡ true → present_at now q ≡ Some None
   pub touched : (q : Cell) → (is_among keys q ≡ true) ⊎ (is_stale book keys q ≡ true) → is_touched now q ≡ true
 
-module _ (answer : Answers) (b : CalcBook) (s : CalcState) (rest : AtRest answer b s) where
-  own : AtRest answer b (own_state b s)
-  own = rest-own answer b s rest
+module _ (b : CalcBook) (s : CalcState) (rest : AtRest b s) where
+  own : AtRest b (own_state b s)
+  own = rest-own b s rest
 
   -- what is present is shown where no changed cell is reached
   pub own-clean : ShowsWhereClean b.book.contents b.changed.keys b.store
   own-clean = own.clean
 
   -- ---- a refusal
-  pub still-rests : (keys : BTreeSet Cell) (table : List (Cell × List Area)) (marks : List Cell) (chain : CellOrder) (store : StoreState)
-      → keys.keys ≡ b.changed.keys → chain ≡ b.chain → TableFollows b.book.contents b.changed.keys table → KeepsShown b.store store
+  pub still-rests : (keys : BTreeSet Cell) (table : List (Cell × List Area)) (marks : List Cell) (chain : CellOrder) (store : StoreState) (work : OpenWork)
+      → keys.keys ≡ b.changed.keys → chain ≡ b.chain → KeepsCalls b.work work → TableFollows b.book.contents b.changed.keys table → KeepsShown b.store store
       → ShowsWhereClean b.book.contents b.changed.keys store
-      → AtRest answer (record b { changed = keys; table = table; marks = marks; chain = chain; store = store }) s
-  still-rests keys table marks chain store same is follows shown clean = record {
+      → AtRest (record b { changed = keys; table = table; marks = marks; chain = chain; store = store; work = work }) s
+  still-rests keys table marks chain store work same is calls follows shown clean = record {
     holds = record {
+      session = calls.session ∙ rest.holds.session;
       book = rest.holds.book;
-      plain = rest.holds.plain;
+      functions = rest.holds.functions;
       ordered = rest.holds.ordered;
       completed = rest.holds.completed;
       changed = λ q. ap (λ ks. is_among ks q) same ∙ rest.holds.changed q;
       chain = λ q. ap (λ (c : CellOrder). is_among c.entries q) is ∙ rest.holds.chain q;
       shown = λ q. shown q ∙ rest.holds.shown q;
+      closed = rest.holds.closed;
     };
     table = subst (λ book. TableFollows book s.changed table) rest.holds.book (table-alike b.book.contents b.changed.keys s.changed table rest.holds.changed follows);
     clean = subst (λ book. ShowsWhereClean book s.changed store) rest.holds.book (shows-alike b.book.contents b.changed.keys s.changed store rest.holds.changed clean);
     others = rest.others;
+    calls = calls.calls ∙ rest.calls;
   }
 
   -- ---- table, marks and store are in step with the book
   module _ (table : List (Cell × List Area)) (marks : List Cell) (store : StoreState) (up : HasCaughtUp b.book.contents b.changed.keys table marks b.store store) where
     -- what is present has its meaning in a setting in which what is clean stays as it is
-    module _ (setting : Setting) (none : (name : List ℕ) → setting.registered name ≡ None)
-        (alike : IsAlikeBesideChanged (topic_setting answer s.snapshot) setting s.completed b.book.contents b.changed.keys) where
+    module _ (setting : Setting) (alike : IsAlikeBesideChanged s.setting setting s.completed b.book.contents b.changed.keys) where
       means : PresentMeans setting b.book.contents store
-      means = followed-means b.book.contents own.holds.ordered (topic_setting answer s.snapshot) setting none s.completed b.changed.keys b.store store
-          own.holds.completed own.holds.shown own.clean alike up.others up.changed up.stale
+      means = followed-means b.book.contents own.holds.ordered s.setting setting s.completed b.changed.keys b.store store
+          own.holds.completed own.holds.closed own.holds.shown own.clean alike up.others up.changed up.stale
 
       left : (q : Cell) → is_unfinished store q ≡ true → (is_circular b.book.contents q || is_among marks q) ≡ true
       left q h = ap (λ m. is_circular b.book.contents q || m) (up.marked q)
-          ∙ followed-left b.book.contents own.holds.ordered (topic_setting answer s.snapshot) setting none s.completed b.changed.keys b.store store
-          own.holds.completed own.holds.shown own.clean alike up.others up.changed up.stale q h
+          ∙ followed-left b.book.contents own.holds.ordered s.setting setting s.completed b.changed.keys b.store store
+          own.holds.completed own.holds.closed own.holds.shown own.clean alike up.others up.changed up.stale q h
 
-    -- with the values of topics that were, nothing beside what is changed is otherwise
-    own-means : PresentMeans (topic_setting answer s.snapshot) b.book.contents store
-    own-means = means (topic_setting answer s.snapshot) (λ name. refl) (alike-itself (topic_setting answer s.snapshot) s.completed b.book.contents b.changed.keys own.others)
+    -- in the setting that was, nothing beside what is changed is otherwise
+    own-means : PresentMeans s.setting b.book.contents store
+    own-means = means s.setting (alike-itself s.setting s.completed b.book.contents b.changed.keys own.others)
 
     marked-formula : (q : Cell) → is_among marks q ≡ true → is_formula b.book.contents q ≡ true
     marked-formula q h = own-means.formula q (ap has_no_value (up.stale q (sym (up.marked q) ∙ h)))
 
-    -- what a begin of the stale cells needs
-    pub marked-entries : (q : Cell) → is_among marks q ≡ true → is_among b.chain.entries q ≡ true
+    -- the stale cells stand in the chain
+    marked-entries : (q : Cell) → is_among marks q ≡ true → is_among b.chain.entries q ≡ true
     marked-entries q h = own.holds.chain q ∙ marked-formula q h
 
     -- what a begin of all formula cells needs
@@ -200,11 +206,11 @@ module _ (answer : Answers) (b : CalcBook) (s : CalcState) (rest : AtRest answer
     pub entries-present : (q : Cell) → is_among b.chain.entries q ≡ true → is_some (present_at store q) ≡ true
     entries-present q h = own-means.content q ∙ formula-some (content_at b.book.contents q) (sym (own.holds.chain q) ∙ h)
 
-    pub refused-rests : (keys : BTreeSet Cell) (after : List Cell) (chain : CellOrder) (last : StoreState)
-        → keys.keys ≡ b.changed.keys → chain ≡ b.chain → KeepsPresent store last → KeepsShown store last
-        → AtRest answer (record b { changed = keys; table = table; marks = after; chain = chain; store = last }) s
-    refused-rests keys after chain last same is present shown =
-        still-rests keys table after chain last same is up.again (λ q. shown q ∙ up.shown q)
+    pub refused-rests : (keys : BTreeSet Cell) (after : List Cell) (chain : CellOrder) (last : StoreState) (work : OpenWork)
+        → keys.keys ≡ b.changed.keys → chain ≡ b.chain → KeepsCalls b.work work → KeepsPresent store last → KeepsShown store last
+        → AtRest (record b { changed = keys; table = table; marks = after; chain = chain; store = last; work = work }) s
+    refused-rests keys after chain last work same is calls present shown =
+        still-rests keys table after chain last work same is calls up.again (λ q. shown q ∙ up.shown q)
         (λ q. ⊎_elim (λ alike. inl (present q ∙ alike ∙ sym (shown q))) (λ r. inr r) (up.clean own.clean q))
 
     -- what is stale has no value yet
@@ -212,50 +218,57 @@ module _ (answer : Answers) (b : CalcBook) (s : CalcState) (rest : AtRest answer
     marked-empty q h = up.stale q (sym (up.marked q) ∙ h)
 
     -- ---- the stale cells are due
-    module _ (kind : BeginKind) (is : kind ≡ kinds.Dirty) (chain : CellOrder) (rewound : IsRewound table marks b.chain chain) where
+    module _ (kind : BeginKind) (is : kind ≡ kinds.Dirty) (chain : CellOrder) (work : OpenWork)
+        (due : AreDue table marks work.waiting.items) (room : HasRoom work) (idle : IsIdle b.chain chain) (calls : KeepsCalls b.work work) where
       abbrev begun_dirty : CalcBook
-      begun_dirty = record b { table = table; marks = marks; chain = chain; store = store }
+      begun_dirty = record b { table = table; marks = marks; chain = chain; store = store; work = work }
 
       dirty-alike : AreAlike b.changed.keys (changed_at_begin kind s.book s.changed)
       dirty-alike q = rest.holds.changed q ∙ ap (λ ks. is_among ks q) (changed-dirty kind is s.book s.changed)
 
-      pub dirty-begun : (now : Topic → Value) → IsAlikeNow answer now s → InRound answer now begun_dirty (calc_begin s kind)
-      dirty-begun now alike =
-          let same = alike-own answer now b s rest.holds.book rest.holds.changed alike in
-          round-of answer now begun_dirty (calc_begin s kind) rest.holds.book dirty-alike
+      pub dirty-begun : (now : Setting) (round : ℕ) → IsAlikeNow now (calc_begin s kind) → InRound now round begun_dirty (calc_begin s kind)
+      dirty-begun now round alike =
+          let same = alike-own now b s b.changed.keys (changed_at_begin kind s.book s.changed) rest.holds.book dirty-alike alike in
+          round-of now round begun_dirty (calc_begin s kind) rest.holds.book dirty-alike
           (record {
             holds = record {
+              session = calls.session ∙ rest.holds.session;
               book = refl;
-              plain = own.holds.plain;
+              functions = own.holds.functions;
               ordered = own.holds.ordered;
               completed = own.holds.completed;
               changed = λ q. refl;
-              chain = λ q. ap (λ cells. is_among cells q) rewound.entries ∙ own.holds.chain q;
+              chain = λ q. ap (λ cells. is_among cells q) idle.entries ∙ own.holds.chain q;
               shown = λ q. up.shown q ∙ own.holds.shown q;
+              closed = own.holds.closed;
             };
             table = up.follows;
             marked = up.marked;
-            working = marked-working (topic_setting answer now) b.book.contents store table marks b.chain chain own.holds.ordered up.follows
-                (means (topic_setting answer now) (λ name. refl) same) rewound marked-entries
+            working = marked-working now round b.book.contents store table marks chain.entries work.waiting.items work.calls.calls own.holds.ordered up.follows
+                (means now same) idle.once due (calls.calls ∙ rest.calls)
+                (λ q h. ap (λ cells. is_among cells q) idle.entries ∙ marked-entries q h)
                 (λ q h. ap has_no_value (marked-empty q h))
                 (λ q h. up.touched q (inr (sym (up.marked q) ∙ h)))
-                (left (topic_setting answer now) (λ name. refl) same);
+                (left now same);
+            idle = idle.due;
+            room = room;
             clean = up.clean own.clean;
             alike = same;
           })
 
-      pub dirty-reads : (source : SourceState) → IsAlikeNow answer source.snapshot s → NotesCleanReaders answer source (calc_begin s kind) → ReadsInRound answer source begun_dirty
-      dirty-reads source alike = begun-reads answer source begun_dirty (calc_begin s kind) (dirty-begun source.snapshot alike) marked-empty
+      pub dirty-reads : (now : Setting) (source : SourceState) → IsAlikeNow now (calc_begin s kind) → NotesCleanReaders source (calc_begin s kind) → ReadsInRound now source begun_dirty
+      dirty-reads now source alike = begun-reads now zero source begun_dirty (calc_begin s kind) (dirty-begun now zero alike) marked-empty
 
       pub dirty-forgotten : (both : List Cell) → AreBoth marks b.changed.keys both → (q : Cell) → is_among both q ≡ is_forgotten (calc_begin s kind) q
       dirty-forgotten both are = forgotten-cells b.book.contents s.book b.changed.keys (changed_at_begin kind s.book s.changed) marks both rest.holds.book dirty-alike up.marked are
 
     -- ---- all formula cells are due
-    module _ (keys : BTreeSet Cell) (after : List Cell) (chain : CellOrder) (last : StoreState)
-        (all : AreAllChanged b.chain.entries b.changed.keys keys.keys after store last) (shown : KeepsShown store last) (rewound : IsRewound table after b.chain chain)
+    module _ (keys : BTreeSet Cell) (after : List Cell) (chain : CellOrder) (last : StoreState) (work : OpenWork)
+        (all : AreAllChanged b.chain.entries b.changed.keys keys.keys after store last) (shown : KeepsShown store last)
+        (due : AreDue table after work.waiting.items) (room : HasRoom work) (idle : IsIdle b.chain chain) (calls : KeepsCalls b.work work)
         (kind : BeginKind) (is : (kind ≡ kinds.All) ⊎ (kind ≡ kinds.Rebuild)) where
       abbrev begun_all : CalcBook
-      begun_all = record b { changed = keys; table = table; marks = after; chain = chain; store = last }
+      begun_all = record b { changed = keys; table = table; marks = after; chain = chain; store = last; work = work }
 
       all-stale : (q : Cell) → is_among after q ≡ is_stale b.book.contents keys.keys q
       all-stale q =
@@ -289,35 +302,39 @@ module _ (answer : Answers) (b : CalcBook) (s : CalcState) (rest : AtRest answer
             (up.clean own.clean q)
       ] refl
 
-      pub all-begun : (now : Topic → Value) → IsAlikeNow answer now s → InRound answer now begun_all (calc_begin s kind)
-      all-begun now alike =
-          let same = alike-own answer now b s rest.holds.book rest.holds.changed alike in
-          let there = emptied-means (topic_setting answer now) b.book.contents b.chain.entries store last own.holds.chain all.present
-          (means (topic_setting answer now) (λ name. refl) same) in
-          round-of answer now begun_all (calc_begin s kind) rest.holds.book all-alike
+      pub all-begun : (now : Setting) (round : ℕ) → IsAlikeNow now (calc_begin s kind) → InRound now round begun_all (calc_begin s kind)
+      all-begun now round alike =
+          let same = alike-own now b s keys.keys (changed_at_begin kind s.book s.changed) rest.holds.book all-alike alike in
+          let there = emptied-means s.setting now b.book.contents own.holds.ordered b.chain.entries store last own.holds.chain all.present own-means in
+          round-of now round begun_all (calc_begin s kind) rest.holds.book all-alike
           (record {
             holds = record {
+              session = calls.session ∙ rest.holds.session;
               book = refl;
-              plain = own.holds.plain;
+              functions = own.holds.functions;
               ordered = own.holds.ordered;
               completed = own.holds.completed;
               changed = λ q. refl;
-              chain = λ q. ap (λ cells. is_among cells q) rewound.entries ∙ own.holds.chain q;
+              chain = λ q. ap (λ cells. is_among cells q) idle.entries ∙ own.holds.chain q;
               shown = λ q. shown q ∙ up.shown q ∙ own.holds.shown q;
+              closed = own.holds.closed;
             };
             table = up.follows;
             marked = all-stale;
-            working = marked-working (topic_setting answer now) b.book.contents last table after b.chain chain own.holds.ordered up.follows there rewound
-                (λ q h. sym (all.marked q) ∙ h)
+            working = marked-working now round b.book.contents last table after chain.entries work.waiting.items work.calls.calls own.holds.ordered up.follows there
+                idle.once due (calls.calls ∙ rest.calls)
+                (λ q h. ap (λ cells. is_among cells q) idle.entries ∙ sym (all.marked q) ∙ h)
                 (λ q h. ap has_no_value (all-empty q h))
                 (λ q h. all.touched q (sym (all.marked q) ∙ h))
                 (λ q h. or_right (is_circular b.book.contents q) _ (all.marked q ∙ own.holds.chain q ∙ there.formula q h));
+            idle = idle.due;
+            room = room;
             clean = all-clean;
-            alike = alike-more (topic_setting answer s.snapshot) (topic_setting answer now) s.completed b.book.contents b.changed.keys keys.keys all-within same;
+            alike = same;
           })
 
-      pub all-reads : (source : SourceState) → IsAlikeNow answer source.snapshot s → NotesCleanReaders answer source (calc_begin s kind) → ReadsInRound answer source begun_all
-      all-reads source alike = begun-reads answer source begun_all (calc_begin s kind) (all-begun source.snapshot alike) all-empty
+      pub all-reads : (now : Setting) (source : SourceState) → IsAlikeNow now (calc_begin s kind) → NotesCleanReaders source (calc_begin s kind) → ReadsInRound now source begun_all
+      all-reads now source alike = begun-reads now zero source begun_all (calc_begin s kind) (all-begun now zero alike) all-empty
 
       pub all-forgotten : (both : List Cell) → AreBoth after keys.keys both → (q : Cell) → is_among both q ≡ is_forgotten (calc_begin s kind) q
       all-forgotten both are = forgotten-cells b.book.contents s.book keys.keys (changed_at_begin kind s.book s.changed) after both rest.holds.book all-alike all-stale are

@@ -4,7 +4,8 @@ use Rattle.std.proofs.lemmas.Bool.{or_parts, or_right}
 use Rattle.calc_book.specs.declared.calc_books.CalcBook.{CalcBook}
 use Rattle.calc_book.specs.CalcState.{CalcState}
 use Rattle.calc_book.specs.Edits.{SetsAmong}
-use Rattle.calc_book.specs.Keeping.{Answers, AtRest}
+use Rattle.calc_book.specs.Keeping.{AtRest}
+use Rattle.calc_round.specs.declared.open_work.OpenWork.{OpenWork}
 use Rattle.book_sync.specs.Following.{ShowsWhereClean, TableFollows}
 use Rattle.cell_chain.specs.CellOrder.{CellOrder, without}
 use Rattle.cell_chain.proofs.PublicLaws.{among-without}
@@ -48,10 +49,10 @@ by_cases f true x y = refl
 by_cases f false x y = refl
 
 -- the cell has this content in the book that is made of the one before, or none
-module _ (answer : Answers) (b b' : CalcBook) (s : CalcState) (cell : Cell) (o : Option Content) (made : List (Cell × Content)) (before : AtRest answer b s)
-    (book : b'.book.contents ≡ made) (plain : b'.book.functions ≡ b.book.functions) (contents : PutsContent s.book made cell o) (ordered : IsInOrder made)
+module _ (b b' : CalcBook) (s : CalcState) (cell : Cell) (o : Option Content) (made : List (Cell × Content)) (before : AtRest b s)
+    (book : b'.book.contents ≡ made) (functions : b'.book.functions ≡ b.book.functions) (contents : PutsContent s.book made cell o) (ordered : IsInOrder made)
     (changed : SetsAmong b.changed.keys b'.changed.keys cell true) (chain : SetsAmong b.chain.entries b'.chain.entries cell (has_formula o))
-    (table : b'.table ≡ b.table) (store : b'.store ≡ b.store) where
+    (table : b'.table ≡ b.table) (store : b'.store ≡ b.store) (work : b'.work ≡ b.work) where
   kept : (q : Cell) → is_among (cell ∷ s.changed) q ≡ false → content_at s.book q ≡ content_at made q
   kept q none =
       let apart = (or_parts (same_cell q cell) (is_among s.changed q) none).0 in
@@ -61,11 +62,12 @@ module _ (answer : Answers) (b b' : CalcBook) (s : CalcState) (cell : Cell) (o :
   more q h = or_right (same_cell q cell) (is_among s.changed q) h
 
   module _ (follows : TableFollows made (cell ∷ s.changed) b.table) (shows : ShowsWhereClean made (cell ∷ s.changed) b.store) where
-    edited : AtRest answer b' (record s { book = made; changed = cell ∷ s.changed })
+    edited : AtRest b' (record s { book = made; changed = cell ∷ s.changed })
     edited = record {
       holds = record {
+        session = ap (λ (w : OpenWork). w.calls.session) work ∙ before.holds.session;
         book = book;
-        plain = plain ∙ before.holds.plain;
+        functions = functions ∙ before.holds.functions;
         ordered = ordered;
         completed = before.holds.completed;
         changed = λ q.
@@ -79,39 +81,41 @@ module _ (answer : Answers) (b b' : CalcBook) (s : CalcState) (cell : Cell) (o :
             ∙ by_cases has_formula (same_cell cell q) o (content_at s.book q)
             ∙ ap has_formula (sym (contents q));
         shown = λ q. ap (λ t. shown_at t q) store ∙ before.holds.shown q;
+        closed = before.holds.closed;
       };
       table = subst (TableFollows made (cell ∷ s.changed)) (sym table) follows;
       clean = subst (ShowsWhereClean made (cell ∷ s.changed)) (sym store) shows;
       others = λ q none.
           before.others q (or_parts (same_cell q cell) (is_among s.changed q) none).1 ∙ kept q none;
+      calls = ap (λ (w : OpenWork). w.calls.calls) work ∙ before.calls;
     }
 
 -- a book before an edit and the one behind it, of which this is made
-module _ {E : Type 0} (r : Result (Unit {0}) E) (answer : Answers) (b b' : CalcBook) (s : CalcState) (cell : Cell) (o : Option Content)
+module _ {E : Type 0} (r : Result (Unit {0}) E) (b b' : CalcBook) (s : CalcState) (cell : Cell) (o : Option Content)
     (make : List (Cell × Content) → List (Cell × Content)) where
-  pub edit-rests : AtRest answer b s
+  pub edit-rests : AtRest b s
       → OnOk r (b'.book ≡ record b.book { contents = make b.book.contents })
       → OnOk r (PutsContent b.book.contents b'.book.contents cell o)
       → OnOk r (IsInOrder b'.book.contents)
       → OnOk r (SetsAmong b.changed.keys b'.changed.keys cell true)
       → OnOk r (SetsAmong b.chain.entries b'.chain.entries cell (has_formula o))
-      → b'.table ≡ b.table → b'.store ≡ b.store
+      → b'.table ≡ b.table → b'.store ≡ b.store → b'.work ≡ b.work
       → (((q : Cell) → is_among (cell ∷ s.changed) q ≡ false → content_at s.book q ≡ content_at (make s.book) q) → ((q : Cell) → is_among s.changed q ≡ true → is_among (cell ∷ s.changed) q ≡ true)
       → TableFollows s.book s.changed b.table → TableFollows (make s.book) (cell ∷ s.changed) b.table)
       → (((q : Cell) → is_among (cell ∷ s.changed) q ≡ false → content_at s.book q ≡ content_at (make s.book) q) → ((q : Cell) → is_among s.changed q ≡ true → is_among (cell ∷ s.changed) q ≡ true)
       → ShowsWhereClean s.book s.changed b.store → ShowsWhereClean (make s.book) (cell ∷ s.changed) b.store)
-      → OnOk r (AtRest answer b' (record s { book = make s.book; changed = cell ∷ s.changed }))
-  edit-rests before is contents ordered changed chain table store follows shows = elim r as (λ (r : Result (Unit {0}) E).
+      → OnOk r (AtRest b' (record s { book = make s.book; changed = cell ∷ s.changed }))
+  edit-rests before is contents ordered changed chain table store work follows shows = elim r as (λ (r : Result (Unit {0}) E).
       OnOk r (b'.book ≡ record b.book { contents = make b.book.contents }) → OnOk r (PutsContent b.book.contents b'.book.contents cell o) → OnOk r (IsInOrder b'.book.contents)
       → OnOk r (SetsAmong b.changed.keys b'.changed.keys cell true) → OnOk r (SetsAmong b.chain.entries b'.chain.entries cell (has_formula o))
-      → OnOk r (AtRest answer b' (record s { book = make s.book; changed = cell ∷ s.changed }))) [
+      → OnOk r (AtRest b' (record s { book = make s.book; changed = cell ∷ s.changed }))) [
         | Ok done ↦ λ is contents ordered changed chain.
             let book : b'.book.contents ≡ make s.book = ap (λ k. k.contents) is ∙ ap make before.holds.book in
             let puts : PutsContent s.book (make s.book) cell o =
             λ q. ap (λ es. content_at es q) (sym book) ∙ contents q ∙ ap (λ es. cond (same_cell cell q) o (content_at es q)) before.holds.book in
-            let still = kept answer b b' s cell o (make s.book) before book (ap (λ k. k.functions) is) puts (subst IsInOrder book ordered) changed chain table store in
-            let all = more answer b b' s cell o (make s.book) before book (ap (λ k. k.functions) is) puts (subst IsInOrder book ordered) changed chain table store in
-            edited answer b b' s cell o (make s.book) before book (ap (λ k. k.functions) is) puts (subst IsInOrder book ordered) changed chain table store
+            let still = kept b b' s cell o (make s.book) before book (ap (λ k. k.functions) is) puts (subst IsInOrder book ordered) changed chain table store work in
+            let all = more b b' s cell o (make s.book) before book (ap (λ k. k.functions) is) puts (subst IsInOrder book ordered) changed chain table store work in
+            edited b b' s cell o (make s.book) before book (ap (λ k. k.functions) is) puts (subst IsInOrder book ordered) changed chain table store work
             (follows still all before.table) (shows still all before.clean)
         | Err e ↦ λ _ _ _ _ _. tt
       ] is contents ordered changed chain

@@ -5,6 +5,8 @@ mod SettleLaws
 mod Readings
 mod NotingLaws
 mod Samples
+mod AskedCalls
+mod Redeeming
 mod BeginningLists
 mod BeginningMeans
 mod BeginningLoops

@@ -1,32 +1,37 @@
 -- A recalculation that is worked out: what is shown then, and how many cells were stale.
-use Rattle.std.proofs.Common.{◌≡◌, Bool, true, false, cond, Option, None, Some, is_some, List, [], length, refl, ap, sym, subst, ◌∙◌, arith, ⊎_elim, inl, inr, zero}
+use Rattle.std.proofs.Common.{◌≡◌, ℕ, Bool, true, false, cond, Option, None, Some, is_some, List, [], ◌∷◌, length, refl, ap, sym, subst, ◌∙◌, arith, ⊎_elim, inl, inr, zero}
 use Rattle.std.specs.List.{filter}
 use Rattle.std.specs.List.Sorted.{IsStrictlySortedBy}
 use Rattle.std.specs.Map.{keys_of}
 use Rattle.std.specs.Option.{option_map}
-use Rattle.std.proofs.lemmas.Bool.{and_parts}
+use Rattle.std.proofs.lemmas.Bool.{and_parts, or_cases}
+use Rattle.std.proofs.lemmas.List.Kept.{IsStrictlySortedBy-filter}
 use Rattle.std.proofs.lemmas.List.Sums.{length-filter}
 use Rattle.std.proofs.lemmas.Map.Entries.{length-keys_of, lookup-filter-keys}
 use Rattle.std.proofs.lemmas.Map.Keys.{IsDistinct-from_sorted}
 use Rattle.std.proofs.lemmas.Map.Made.{IsDistinct-keys_filter, is_some-lookup, length-le_from_is_member}
 use Rattle.calc_book.specs.declared.calc_books.CalcBook.{CalcBook}
 use Rattle.calc_book.specs.CalcState.{CalcState, calc_settle}
-use Rattle.calc_book.specs.Keeping.{Answers, AtRest, InRound, shown_in}
+use Rattle.calc_book.specs.Keeping.{AtRest, InRound, IsSettled, shown_in}
 use Rattle.calc_book.proofs.BeginningLists.{unreached}
 use Rattle.calc_book.proofs.BeginningMeans.{clean-shown, three}
-use Rattle.calc_round.specs.Rounds.{HasSameCells, IsWorkedOut, IsWorking, KeepsFinished, PresentMeans, topic_setting}
+use Rattle.calc_book.proofs.Readings.{none-asks}
+use Rattle.calc_round.specs.Rounds.{HasRoom, HasSameCells, IsWorkedOut, IsWorking, KeepsFinished, PresentMeans}
+use Rattle.calc_round.specs.declared.open_work.OpenWork.{OpenWork}
+use Rattle.async_handles.specs.declared.open_calls.OpenCall.{OpenCall}
 use Rattle.book_sync.specs.Following.{ShowsWhereClean, TableFollows}
 use Rattle.cell_refs.specs.declared.grid.Cell.{Cell}
 use Rattle.cell_refs.specs.Cell.{cell_cmp, is_among, same_cell}
 use Rattle.cell_refs.proofs.PublicLaws.{same_cell_is, same_cells}
 use Rattle.cell_store.specs.Gathering.{has_no_value}
 use Rattle.cell_store.specs.Store.{KeepsPresent, StoreState, present_at, shown_at}
-use Rattle.cell_values.specs.declared.topics.Topic.{Topic}
 use Rattle.cell_values.specs.declared.values.Value.{Value}
 use Rattle.workbook.specs.declared.contents.Content.{Content}
+use Rattle.workbook.specs.Circular.{is_circular}
 use Rattle.workbook.specs.Agreement.{IsAlikeBesideChanged}
 use Rattle.workbook.specs.Book.{IsInOrder, content_at, formula_count, has_formula, is_formula}
-use Rattle.workbook.specs.Meaning.{Circ, Setting, meaning, meaning_within, shown_value}
+use Rattle.workbook.specs.Meaning.{Circ, Setting, is_open, meaning, shown_value}
+use Rattle.workbook.proofs.PublicLaws.{all_closed, shows_circle}
 use Rattle.workbook.specs.Stale.{is_stale, reaches, stale_cells, stale_count}
 
 -- ---- how many cells are stale
@@ -35,8 +40,20 @@ formula_there : (o : Option Content) → has_formula o ≡ true → is_some o �
 formula_there None h = cc
 formula_there (Some content) h = refl
 
+-- the stale cells stand in cell order
+keys-filter : (p : Cell → Bool) (book : List (Cell × Content)) → keys_of (filter (λ e. p e.0) book) ≡ filter p (keys_of book)
+keys-filter p [] = refl
+keys-filter p (e ∷ book) = elim (p e.0) as (λ b. keys_of (cond b (e ∷ filter (λ e. p e.0) book) (filter (λ e. p e.0) book)) ≡ cond b (e.0 ∷ filter p (keys_of book)) (filter p (keys_of book))) [
+  | true ↦ ap (λ ks. e.0 ∷ ks) (keys-filter p book)
+  | false ↦ keys-filter p book
+]
+
+pub stale-sorted : (book : List (Cell × Content)) (changed : List Cell) → IsInOrder book → IsStrictlySortedBy cell_cmp (stale_cells book changed)
+stale-sorted book changed ordered =
+    subst (IsStrictlySortedBy cell_cmp) (sym (keys-filter (is_stale book changed) book)) (IsStrictlySortedBy-filter cell_cmp (is_stale book changed) (keys_of book) ordered)
+
 -- the list of the stale cells has exactly those
-stale-has : (book : List (Cell × Content)) (changed : List Cell) (q : Cell) → is_among (stale_cells book changed) q ≡ is_stale book changed q
+pub stale-has : (book : List (Cell × Content)) (changed : List Cell) (q : Cell) → is_among (stale_cells book changed) q ≡ is_stale book changed q
 stale-has book changed q =
     sym (is_some-lookup (same_cell q) (filter (λ e. is_stale book changed e.0) book))
     ∙ ap is_some (lookup-filter-keys (same_cell q) (is_stale book changed) (is_stale book changed q) (λ k same. ap (is_stale book changed) (sym (same_cell_is q k same))) book)
@@ -61,9 +78,12 @@ marks-counted marks book changed sorted ordered marked =
 
 -- ---- what is shown
 
-module _ (setting : Setting) (book : List (Cell × Content)) (store : StoreState) (out : IsWorkedOut setting book store) (q : Cell) where
+module _ (setting : Setting) (book : List (Cell × Content)) (ordered : IsInOrder book) (store : StoreState) (calls : List OpenCall) (none : calls ≡ [])
+    (out : IsWorkedOut setting book store calls) (q : Cell) where
   circle : present_at store q ≡ Some None → meaning setting book q ≡ Circ
-  circle is = ap (λ b. cond b Circ (meaning_within setting book (formula_count book) q)) (out.circular q (ap has_no_value is))
+  circle is = ⊎_elim (shows_circle setting book q)
+      (λ waits. let no : false ≡ true = sym (all_closed setting book ordered (none-asks setting book store calls none out) q) ∙ waits in cc)
+      (or_cases (is_circular book q) (is_open (meaning setting book q)) (out.left q (ap has_no_value is)))
 
   -- where all is worked out, what is present of a cell is what its book shows
   worked-shown : present_at store q ≡ shown_in setting book q
@@ -78,24 +98,29 @@ module _ (setting : Setting) (book : List (Cell × Content)) (store : StoreState
       either (Some (Some v)) is (Some content) there = sym (ap (λ m. Some (shown_value m)) (out.means.value q v is))
 
 -- a recalculation that is worked out and completed, in which no cell is changed any more
-pub settled : (answer : Answers) (now : Topic → Value) (b b' : CalcBook) (s : CalcState) (out : StoreState) → InRound answer now b s
-    → b'.book ≡ b.book → b'.table ≡ b.table → IsWorkedOut (topic_setting answer now) b.book.contents out → HasSameCells b.chain.entries b'.chain.entries
-    → ((q : Cell) → shown_at b'.store q ≡ present_at out q) → KeepsPresent out b'.store → b'.changed.keys ≡ []
-    → AtRest answer b' (calc_settle s now)
-settled answer now b b' s out before book table worked cells shown present none = record {
-  holds = record {
-    book = ap (λ k. k.contents) book ∙ before.holds.book;
-    plain = ap (λ k. k.functions) book ∙ before.holds.plain;
-    ordered = before.holds.ordered;
-    completed = before.holds.ordered;
-    changed = λ q. ap (λ ks. is_among ks q) none;
-    chain = λ q. cells q ∙ before.holds.chain q;
-    shown = λ q. shown q ∙ worked-shown (topic_setting answer now) s.book out (subst (λ es. IsWorkedOut (topic_setting answer now) es out) before.holds.book worked) q;
-  };
-  table = subst (TableFollows s.book []) (sym table) before.table;
-  clean = λ q. inl (present q ∙ sym (shown q));
-  others = λ q _. refl;
-}
+pub completed : (now : Setting) (round : ℕ) (b b' : CalcBook) (s : CalcState) → IsSettled now round b s → b.work.calls.calls ≡ []
+    → b'.book ≡ b.book → b'.table ≡ b.table → b'.chain ≡ b.chain → b'.work ≡ b.work
+    → ((q : Cell) → shown_at b'.store q ≡ present_at b.store q) → KeepsPresent b.store b'.store → b'.changed.keys ≡ []
+    → AtRest b' (calc_settle s now)
+completed now round b b' s settled none book table chain work shown present empty =
+    let before = settled.running in
+    record {
+      holds = record {
+        session = ap (λ (w : OpenWork). w.calls.session) work ∙ before.holds.session;
+        book = ap (λ k. k.contents) book ∙ before.holds.book;
+        functions = ap (λ k. k.functions) book ∙ before.holds.functions;
+        ordered = before.holds.ordered;
+        completed = before.holds.ordered;
+        changed = λ q. ap (λ ks. is_among ks q) empty;
+        chain = λ q. ap (λ c. is_among c.entries q) chain ∙ before.holds.chain q;
+        shown = λ q. shown q ∙ worked-shown now s.book before.holds.ordered b.store b.work.calls.calls none settled.worked q;
+        closed = none-asks now s.book b.store b.work.calls.calls none settled.worked;
+      };
+      table = subst (TableFollows s.book []) (sym table) before.table;
+      clean = λ q. inl (present q ∙ sym (shown q));
+      others = λ q _. refl;
+      calls = ap (λ (w : OpenWork). w.calls.calls) work ∙ none;
+    }
 
 -- ---- a recalculation that goes on, or is given up
 
@@ -122,44 +147,53 @@ still-clean earlier later completed book changed completed_ordered ordered alike
     still (Some None) is (Some (Some v)) is' (Some content) there same = absurd (let no : Some None ≡ Some (Some v) = sym is ∙ kept.values q v is' in cc)
 
 -- a recalculation in which some values came up
-pub goes-on : (answer : Answers) (now : Topic → Value) (b b' : CalcBook) (s : CalcState) → InRound answer now b s
+pub goes-on : (now : Setting) (round : ℕ) (b b' : CalcBook) (s : CalcState) → InRound now round b s
     → b'.book ≡ b.book → b'.changed ≡ b.changed → b'.table ≡ b.table → b'.marks ≡ b.marks
-    → IsWorking (topic_setting answer now) b.book.contents b'.store b'.chain.entries b'.chain.due
+    → IsWorking now b.book.contents b'.store b'.chain.entries b'.work.waiting.items b'.work.calls.calls round
     → KeepsFinished b.store b'.store → HasSameCells b.chain.entries b'.chain.entries
-    → InRound answer now b' s
-goes-on answer now b b' s before book changed table marks working kept cells =
-    let works = subst (λ es. IsWorking (topic_setting answer now) es b'.store b'.chain.entries b'.chain.due) before.holds.book working in
+    → b'.chain.due ≡ [] → HasRoom b'.work → b'.work.calls.session ≡ b.work.calls.session
+    → InRound now round b' s
+goes-on now round b b' s before book changed table marks working kept cells idle room session =
+    let works = subst (λ es. IsWorking now es b'.store b'.chain.entries b'.work.waiting.items b'.work.calls.calls round) before.holds.book working in
     record {
       holds = record {
+        session = session ∙ before.holds.session;
         book = ap (λ k. k.contents) book ∙ before.holds.book;
-        plain = ap (λ k. k.functions) book ∙ before.holds.plain;
+        functions = ap (λ k. k.functions) book ∙ before.holds.functions;
         ordered = before.holds.ordered;
         completed = before.holds.completed;
         changed = λ q. ap (λ c. is_among c.keys q) changed ∙ before.holds.changed q;
         chain = λ q. cells q ∙ before.holds.chain q;
         shown = λ q. kept.shown q ∙ before.holds.shown q;
+        closed = before.holds.closed;
       };
       table = subst (TableFollows s.book []) (sym table) before.table;
       marked = λ q. ap (λ m. is_among m q) marks ∙ before.marked q;
       working = works;
-      clean = still-clean (topic_setting answer s.snapshot) (topic_setting answer now) s.completed s.book s.changed before.holds.completed before.holds.ordered before.alike
+      idle = idle;
+      room = room;
+      clean = still-clean s.setting now s.completed s.book s.changed before.holds.completed before.holds.ordered before.alike
           b.store b'.store before.holds.shown kept works.means before.clean;
       alike = before.alike;
     }
 
--- a recalculation that is given up: nothing but the marks is otherwise
-pub given-up : (answer : Answers) (now : Topic → Value) (b : CalcBook) (marks : List Cell) (s : CalcState) → InRound answer now b s → AtRest answer (record b { marks = marks }) s
-given-up answer now b marks s round = record {
+-- a recalculation that is given up: nothing but the marks and the calls is otherwise
+pub given-up : (now : Setting) (round : ℕ) (b : CalcBook) (marks : List Cell) (work : OpenWork) (s : CalcState) → InRound now round b s
+    → work.calls.calls ≡ [] → work.calls.session ≡ b.work.calls.session → AtRest (record b { marks = marks; work = work }) s
+given-up now round b marks work s running none session = record {
   holds = record {
-    book = round.holds.book;
-    plain = round.holds.plain;
-    ordered = round.holds.ordered;
-    completed = round.holds.completed;
-    changed = round.holds.changed;
-    chain = round.holds.chain;
-    shown = round.holds.shown;
+    session = session ∙ running.holds.session;
+    book = running.holds.book;
+    functions = running.holds.functions;
+    ordered = running.holds.ordered;
+    completed = running.holds.completed;
+    changed = running.holds.changed;
+    chain = running.holds.chain;
+    shown = running.holds.shown;
+    closed = running.holds.closed;
   };
-  table = λ q _. round.table q refl;
-  clean = round.clean;
-  others = round.alike.contents;
+  table = λ q _. running.table q refl;
+  clean = running.clean;
+  others = running.alike.contents;
+  calls = none;
 }

@@ -5,8 +5,7 @@ use Rattle.std.specs.List.Sorted.{IsStrictlySortedBy}
 use Rattle.std.specs.Option.{option_map}
 use Rattle.calc_book.specs.declared.calc_books.CalcBook.{CalcBook}
 use Rattle.calc_book.specs.CalcState.{CalcState}
-use Rattle.calc_book.specs.Keeping.{Answers, Holds}
-use Rattle.calc_round.specs.Rounds.{topic_setting}
+use Rattle.calc_book.specs.Keeping.{Holds}
 use Rattle.cell_refs.specs.declared.grid.Cell.{Cell}
 use Rattle.cell_refs.specs.Cell.{cell_cmp, same_cell}
 use Rattle.cell_refs.proofs.PublicLaws.{same_cell_is}
@@ -33,11 +32,11 @@ module _ (shown : Cell → Option Value) where
       ] refl
 
 -- entries in order that have of each cell what is shown of it are the sheet
-pub sheet-shown : (answer : Answers) (b : CalcBook) (s : CalcState) → Holds answer b s → (sheet : List (Cell × Option Value)) → AreInOrder sheet
-    → ((q : Cell) → entry_at sheet q ≡ shown_at b.store q) → sheet ≡ sheet_of (topic_setting answer s.snapshot) s.completed
-sheet-shown answer b s holds sheet ordered shown =
-    let shows = λ (c : Cell). shown_value (meaning (topic_setting answer s.snapshot) s.completed c) in
-    equal-alike sheet (sheet_of (topic_setting answer s.snapshot) s.completed) ordered
+pub sheet-shown : (b : CalcBook) (s : CalcState) → Holds b s → (sheet : List (Cell × Option Value)) → AreInOrder sheet
+    → ((q : Cell) → entry_at sheet q ≡ shown_at b.store q) → sheet ≡ sheet_of s.setting s.completed
+sheet-shown b s holds sheet ordered shown =
+    let shows = λ (c : Cell). shown_value (meaning s.setting s.completed c) in
+    equal-alike sheet (sheet_of s.setting s.completed) ordered
     (subst (IsStrictlySortedBy cell_cmp) (sym (same_keys shows s.completed)) holds.completed)
     (λ q. shown q ∙ holds.shown q ∙ sym (looks shows s.completed q))
 

@@ -3,7 +3,8 @@
 ghost use Rattle.std.specs.Prelude.{◌≡◌, [], ◌⊎◌, true, false, not, ◌||◌, if◌then◌else◌, None, Some, is_some, IsTrue, IfOk, OnOk, OnErr};
 ghost use Rattle.std.specs.List.{IsDistinct, filter};
 ghost use Rattle.book_sync.specs.Following.{FollowsChanged, ShowsWhereClean, TableFollows};
-ghost use Rattle.calc_book.specs.Begun.{AreAllChanged, AreBoth, IsRewound, names_itself};
+ghost use Rattle.calc_book.specs.Begun.{AreAllChanged, AreBoth, AreDue, IsIdle, KeepsCalls, names_itself};
+ghost use Rattle.calc_round.specs.Rounds.{HasRoom};
 ghost use Rattle.cell_refs.specs.declared.grid.Cell.{Cell as OneCell};
 ghost use Rattle.cell_refs.specs.Cell.{is_among, same_cell};
 ghost use Rattle.cell_store.specs.Store.{KeepsPresent, KeepsShown, KeepsTouched, is_touched, present_at};
@@ -12,6 +13,7 @@ ghost use Rattle.workbook.specs.Stale.{is_stale};
 
 use super::noting::widened;
 use book_sync::{follow, follow_anew};
+use calc_round::OpenWork;
 use cell_chain::CellChain;
 use cell_refs::Cell;
 use cell_store::CellStore;
@@ -63,29 +65,32 @@ pub fn catch_up(
     }
 }
 
-/// Makes the marked cells due, but for those that name themselves, and answers the marked and the changed cells. A
-/// refusal doesn't change the chain.
+/// Puts the marked cells down to be looked at, but for those that name themselves, and answers the marked and the changed
+/// cells. A refusal leaves those to be looked at as they were.
 pub fn make_due(
     alloc: Global,
     table: &DepTable,
     changed: &BTreeSet<Cell>,
     marks: &Marks,
     chain: &mut CellChain,
+    work: &mut OpenWork,
 ) -> Result<Vec<Cell>, Memory>
-    requires entries { (q : OneCell) → is_among marks.now q ≡ true
-        → is_among chain.old.entries q ≡ true }
-    ensures ok { OnOk result (IsRewound table.now marks.now chain.old chain.new) }
+    requires calls { work.old.calls.calls ≡ [] }
+    ensures due { OnOk result (AreDue table.now marks.now work.new.waiting.items) }
+    ensures room { OnOk result (HasRoom work.new) }
+    ensures chain { OnOk result (IsIdle chain.old chain.new) }
     ensures cells { IfOk result (λ both. AreBoth marks.now changed.now.keys both.items) }
-    ensures refused { OnErr result (chain.new ≡ chain.old) }
+    ensures kept { KeepsCalls work.old work.new }
+    ensures same_chain { OnErr result (chain.new ≡ chain.old) }
 {
     let both = both_of(alloc, changed, marks)?;
     let due = due_cells(alloc, table, marks)?;
-    chain.rewind(due.as_slice());
+    put_waiting(chain, work, due)?;
     Ok(both)
 }
 
-/// Makes all cells of the chain changed, stale and due, but for those that name themselves, and answers the changed
-/// cells. A refusal changes marks alone, and which cells are touched.
+/// Makes all cells of the chain changed and stale, puts them down to be looked at, but for those that name themselves, and
+/// answers the changed cells. A refusal changes marks alone, and which cells are touched.
 pub fn make_all_due(
     alloc: Global,
     table: &DepTable,
@@ -93,17 +98,22 @@ pub fn make_all_due(
     marks: &mut Marks,
     chain: &mut CellChain,
     store: &mut CellStore,
+    work: &mut OpenWork,
 ) -> Result<Vec<Cell>, Memory>
     requires readers { (q : OneCell) → is_reader table.now q ≡ is_among chain.old.entries q }
     requires present { (q : OneCell) → is_among chain.old.entries q ≡ true
         → is_some (present_at store.old q) ≡ true }
+    requires calls { work.old.calls.calls ≡ [] }
     ensures shown { KeepsShown store.old store.new }
     ensures ok { OnOk result (AreAllChanged chain.old.entries changed.old.keys changed.new.keys
         marks.new store.old store.new) }
-    ensures due { OnOk result (IsRewound table.now marks.new chain.old chain.new) }
+    ensures due { OnOk result (AreDue table.now marks.new work.new.waiting.items) }
+    ensures room { OnOk result (HasRoom work.new) }
+    ensures chain { OnOk result (IsIdle chain.old chain.new) }
     ensures cells { IfOk result (λ both. AreBoth marks.new changed.new.keys both.items) }
-    ensures same_changed { OnErr result (changed.new.keys ≡ changed.old.keys) }
+    ensures kept { KeepsCalls work.old work.new }
     ensures same_chain { OnErr result (chain.new ≡ chain.old) }
+    ensures same_changed { OnErr result (changed.new.keys ≡ changed.old.keys) }
     ensures same_present { OnErr result (KeepsPresent store.old store.new) }
 {
     let Ok(cells) = chain.list(alloc) else {
@@ -114,12 +124,28 @@ pub fn make_all_due(
     touch_all(cells.as_slice(), store)?;
     let both = both_of(alloc, &all, marks)?;
     let due = due_cells(alloc, table, marks)?;
+    put_waiting(chain, work, due)?;
 
     // Nothing is refused from here on.
     empty_all(cells.as_slice(), store);
     *changed = all;
-    chain.rewind(due.as_slice());
     Ok(both)
+}
+
+/// Puts cells down to be looked at, in place of any others, and takes the room for their calls; none is due before the
+/// looks begin. A refusal leaves the others.
+fn put_waiting(chain: &mut CellChain, work: &mut OpenWork, due: Vec<Cell>) -> Result<(), Memory>
+    requires calls { work.old.calls.calls ≡ [] }
+    ensures waiting { OnOk result (work.new.waiting.items ≡ due.items) }
+    ensures room { OnOk result (HasRoom work.new) }
+    ensures chain { OnOk result (IsIdle chain.old chain.new) }
+    ensures kept { KeepsCalls work.old work.new }
+    ensures same_chain { OnErr result (chain.new ≡ chain.old) }
+{
+    work.calls.reserve(due.len())?;
+    work.waiting = due;
+    chain.rewind(&[]);
+    Ok(())
 }
 
 /// The marked and the changed cells, each once.

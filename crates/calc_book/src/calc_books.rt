@@ -1,29 +1,34 @@
-ghost use Rattle.std.specs.Prelude.{◌≡◌, None, Some, IfOk, OnOk, OnErr, MatchResult};
-ghost use Rattle.calc_book.specs.CalcState.{CalcState, calc_begin, calc_clear, calc_note, calc_set, calc_settle, first_calc};
-ghost use Rattle.calc_book.specs.Keeping.{Answers, AtRest, Holds, InRound, IsAlikeNow, NotesCleanReaders, NotesReaders, ReadsInRound, Rests, Runs, is_forgotten};
-ghost use Rattle.calc_round.specs.Rounds.{topic_setting};
+ghost use Rattle.std.specs.Prelude.{◌≡◌, ℕ, [], None, Some, true, false, IfOk, OnOk, OnErr, MatchResult, length, map, nat_lt};
+ghost use Rattle.std.specs.List.{list_any};
+ghost use Rattle.async_handles.specs.OpenCalls.{is_live};
+ghost use Rattle.calc_book.specs.CalcState.{CalcState, asked_calls, calc_begin, calc_clear, calc_note, calc_register, calc_set, calc_settle, first_calc};
+ghost use Rattle.calc_book.specs.Keeping.{AtRest, Holds, InRound, IsAlikeNow, IsRunning, IsSettled, NotesCleanReaders, NotesReaders, ReadsInRound, Rests, Runs, is_forgotten, setting_over};
+ghost use Rattle.calc_round.specs.Accepting.{DifferAtCell, ForgetsReader};
 ghost use Rattle.cell_refs.specs.Cell.{is_among};
+ghost use Rattle.cell_refs.specs.Handle.{same_handle};
 ghost use Rattle.cell_refs.specs.declared.grid.Cell.{Cell as OneCell};
-ghost use Rattle.cell_values.specs.declared.topics.Topic.{Topic as OneTopic};
-ghost use Rattle.cell_values.specs.declared.values.Value.{Value as OneValue};
 ghost use Rattle.formula_parse.specs.Tree.{has_rtd_call};
 ghost use Rattle.topic_source.specs.Source.{KeepsValues, SourceState};
 ghost use Rattle.workbook.specs.Book.{IsRefusal, exceeds_cells, exceeds_formulas, is_formula, limit_fault};
-ghost use Rattle.workbook.specs.Meaning.{sheet_of};
+ghost use Rattle.workbook.specs.Meaning.{Setting, sheet_of};
 ghost use Rattle.workbook.specs.Stale.{stale_count};
+ghost use Rattle.workbook.specs.State.{HostTerms};
 ghost use Rattle.workbook.specs.Step.{formulas_where};
 
 use super::beginning::{catch_up, make_all_due, make_due};
-use super::calling::rtd_callers;
+use super::calling::{NameTest, RtdTest, callers};
 use super::edits::{clear_content, set_content};
-use super::noting::note_all;
-use super::settling::evaluate;
-use addin_types::AddIns;
+use super::evaluating::evaluate;
+use super::noting::{note_all, widened};
+use addin_types::{AddIns, Call, Registration};
+use async_handles::Handles;
 use book_sync::what_follows_a_book_still_does_after_an_edit;
+use calc_round::OpenWork;
 use cell_chain::CellChain;
-use cell_refs::Cell;
+use cell_refs::{Cell, Handle};
 use cell_store::CellStore;
-use cell_values::{Memory, Value};
+use cell_values::{Memory, Name, Value};
+use command_log::CommandLog;
 use dep_table::DepTable;
 use stale_marks::Marks;
 use std::alloc::Global;
@@ -34,7 +39,8 @@ use topic_source::TopicSource;
 use workbook::{BeginKind, Book, CELL_LIMIT, Content, FORMULA_LIMIT, SetFault};
 
 /// A book with what a recalculation needs beside it: the cells that were changed since the last completed one, the
-/// dependency table, the marks of stale cells, the chain of formula cells, and the values of cells with the sheet.
+/// dependency table, the marks of stale cells, the chain of formula cells, the values of cells with the sheet, and the
+/// cells that are to be looked at with the open calls.
 #[derive(Drop)]
 pub struct CalcBook {
     alloc: Global,
@@ -44,12 +50,13 @@ pub struct CalcBook {
     marks: Marks,
     chain: CellChain,
     store: CellStore,
+    work: OpenWork,
 }
 
 impl CalcBook {
-    /// An empty book, of which an empty sheet is shown.
-    pub fn new(alloc: Global) -> CalcBook
-        ensures { (answer : Answers) → AtRest answer result first_calc }
+    /// An empty book, of which an empty sheet is shown. The handles of its calls are of this session.
+    pub fn new(alloc: Global, session: u64) -> CalcBook
+        ensures { (setting : Setting) → AtRest result (first_calc session setting) }
     {
         CalcBook {
             alloc,
@@ -59,6 +66,10 @@ impl CalcBook {
             marks: Marks::new(alloc),
             chain: CellChain::new(alloc),
             store: CellStore::new(alloc),
+            work: OpenWork {
+                waiting: Vec::new(alloc),
+                calls: Handles::new(alloc, session),
+            },
         }
     }
 
@@ -71,10 +82,10 @@ impl CalcBook {
 
     /// Gives a cell this content, in place of any that it has. A refusal gives the content back and changes nothing.
     pub fn set(&mut self, cell: Cell, content: Content) -> Result<(), SetFault>
-        ensures ok { (answer : Answers) (s : CalcState) → AtRest answer self.old s
-            → OnOk result (AtRest answer self.new (calc_set s cell content)) }
-        ensures refused { (answer : Answers) (s : CalcState) → AtRest answer self.old s
-            → OnErr result (AtRest answer self.new s) }
+        ensures ok { (s : CalcState) → AtRest self.old s
+            → OnOk result (AtRest self.new (calc_set s cell content)) }
+        ensures refused { (s : CalcState) → AtRest self.old s
+            → OnErr result (AtRest self.new s) }
 
         // A limit is answered exactly where it would be passed, that of cells first; else memory may be wanting.
         ensures limits { MatchResult result
@@ -100,56 +111,74 @@ impl CalcBook {
 
     /// Takes the content of a cell away, where it has one. A refusal changes nothing.
     pub fn clear(&mut self, cell: Cell) -> Result<(), Memory>
-        ensures ok { (answer : Answers) (s : CalcState) → AtRest answer self.old s
-            → OnOk result (AtRest answer self.new (calc_clear s cell)) }
-        ensures refused { (answer : Answers) (s : CalcState) → AtRest answer self.old s
-            → OnErr result (AtRest answer self.new s) }
+        ensures ok { (s : CalcState) → AtRest self.old s
+            → OnOk result (AtRest self.new (calc_clear s cell)) }
+        ensures refused { (s : CalcState) → AtRest self.old s
+            → OnErr result (AtRest self.new s) }
     {
         // As for a content that is given.
         what_follows_a_book_still_does_after_an_edit();
         clear_content(&mut self.book, &mut self.changed, &mut self.chain, cell)
     }
 
+    /// Registers a function, in place of any of that name, and notes the formula cells that call the name as changed. A
+    /// refusal changes nothing.
+    pub fn register(&mut self, name: Name, registration: Registration) -> Result<(), Memory>
+        ensures ok { (s : CalcState) → AtRest self.old s
+            → OnOk result (AtRest self.new (calc_register s name registration)) }
+        ensures refused { (s : CalcState) → AtRest self.old s
+            → OnErr result (AtRest self.new s) }
+    {
+        let test = NameTest { name: &name };
+        let called = callers(self.alloc, &self.book, &self.chain, &test)?;
+        let changed = widened(self.alloc, &self.changed, called.as_slice())?;
+        self.book.register(name, registration)?;
+        self.changed = changed;
+        Ok(())
+    }
+
     /// Notes these cells as changed. A refusal changes nothing.
     pub fn note_changed(&mut self, cells: &[Cell]) -> Result<(), Memory>
-        ensures ok { (answer : Answers) (s : CalcState) → AtRest answer self.old s
-            → OnOk result (AtRest answer self.new (calc_note s cells.now)) }
-        ensures refused { (answer : Answers) (s : CalcState) → AtRest answer self.old s
-            → OnErr result (AtRest answer self.new s) }
+        ensures ok { (s : CalcState) → AtRest self.old s
+            → OnOk result (AtRest self.new (calc_note s cells.now)) }
+        ensures refused { (s : CalcState) → AtRest self.old s
+            → OnErr result (AtRest self.new s) }
     {
         note_all(self.alloc, &mut self.changed, cells)
     }
 
     /// Notes the formula cells with an RTD call as changed. A refusal changes nothing.
     pub fn note_rtd_callers(&mut self) -> Result<(), Memory>
-        ensures ok { (answer : Answers) (s : CalcState) → AtRest answer self.old s
-            → OnOk result (AtRest answer self.new
+        ensures ok { (s : CalcState) → AtRest self.old s
+            → OnOk result (AtRest self.new
             (calc_note s (formulas_where s.book has_rtd_call))) }
-        ensures refused { (answer : Answers) (s : CalcState) → AtRest answer self.old s
-            → OnErr result (AtRest answer self.new s) }
+        ensures refused { (s : CalcState) → AtRest self.old s
+            → OnErr result (AtRest self.new s) }
     {
-        let callers = rtd_callers(self.alloc, &self.book, &self.chain)?;
-        note_all(self.alloc, &mut self.changed, callers.as_slice())
+        let called = callers(self.alloc, &self.book, &self.chain, &RtdTest)?;
+        note_all(self.alloc, &mut self.changed, called.as_slice())
     }
 
-    /// Begins a recalculation, and answers the cells whose readings of topics are to be forgotten. A refusal changes
-    /// nothing that shows.
+    /// Begins a recalculation, in which no call is open, and answers the cells whose readings of topics are to be
+    /// forgotten. A refusal changes nothing that shows.
     pub fn begin(&mut self, kind: BeginKind) -> Result<Vec<Cell>, Memory>
         requires rest { Rests self.old }
 
-        // It runs with any values of topics with which the cells that reach no changed one stay as they are.
-        ensures ok { (answer : Answers) (s : CalcState) → AtRest answer self.old s
-            → OnOk result ((now : OneTopic → OneValue) → IsAlikeNow answer now s
-            → InRound answer now self.new (calc_begin s kind)) }
-        ensures reads { (answer : Answers) (s : CalcState) → AtRest answer self.old s
-            → OnOk result ((source : SourceState) → IsAlikeNow answer source.snapshot s
-            → NotesCleanReaders answer source (calc_begin s kind)
-            → ReadsInRound answer source self.new) }
-        ensures forgotten { (answer : Answers) (s : CalcState) → AtRest answer self.old s
+        // It runs in any setting in which the cells that then reach no changed one stay as they are.
+        ensures ok { (s : CalcState) → AtRest self.old s
+            → OnOk result ((now : Setting) (round : ℕ) → IsAlikeNow now (calc_begin s kind)
+            → InRound now round self.new (calc_begin s kind)) }
+        ensures calls { (s : CalcState) → AtRest self.old s
+            → OnOk result (self.new.work.calls.calls ≡ []) }
+        ensures reads { (s : CalcState) → AtRest self.old s
+            → OnOk result ((now : Setting) (source : SourceState)
+            → IsAlikeNow now (calc_begin s kind) → NotesCleanReaders source (calc_begin s kind)
+            → ReadsInRound now source self.new) }
+        ensures forgotten { (s : CalcState) → AtRest self.old s
             → IfOk result (λ cells. (cell : OneCell)
             → is_among cells.items cell ≡ is_forgotten (calc_begin s kind) cell) }
-        ensures refused { (answer : Answers) (s : CalcState) → AtRest answer self.old s
-            → OnErr result (AtRest answer self.new s) }
+        ensures refused { (s : CalcState) → AtRest self.old s
+            → OnErr result (AtRest self.new s) }
     {
         catch_up(
             kind,
@@ -167,6 +196,7 @@ impl CalcBook {
                 &self.changed,
                 &self.marks,
                 &mut self.chain,
+                &mut self.work,
             ),
             BeginKind::All | BeginKind::Rebuild => make_all_due(
                 self.alloc,
@@ -175,63 +205,149 @@ impl CalcBook {
                 &mut self.marks,
                 &mut self.chain,
                 &mut self.store,
+                &mut self.work,
             ),
         }
     }
 
-    /// Completes the recalculation, and answers how many cells were stale. After a refusal it can be called again.
-    pub fn settle<F: AddIns, T: TopicSource>(
+    /// Evaluates what can be: what is left then is circular, asks for a call, which is open, or waits for such a cell. After
+    /// a refusal it can be called again.
+    pub fn work_out<F: AddIns, T: TopicSource>(
         &mut self,
         round: u64,
+        log: &CommandLog,
         addins: &F,
         topics: &mut T,
-    ) -> Result<u64, Memory>
-        requires runs { Runs F.answer (T.state topics.old).snapshot self.old }
-        requires reads { ReadsInRound F.answer (T.state topics.old) self.old }
+    ) -> Result<(), Memory>
+        requires runs { Runs (setting_over F.answer (T.state topics.old) log.now self.old)
+            round self.old }
+        requires reads { ReadsInRound
+            (setting_over F.answer (T.state topics.old) log.now self.old)
+            (T.state topics.old) self.old }
         ensures values { KeepsValues (T.state topics.old) (T.state topics.new) }
-        ensures ok { (s : CalcState) → InRound F.answer (T.state topics.old).snapshot self.old s
-            → IfOk result (λ count. (count ≡ stale_count s.book s.changed)
-            × AtRest F.answer self.new (calc_settle s (T.state topics.old).snapshot)) }
-        ensures read { (s : CalcState) → InRound F.answer (T.state topics.old).snapshot self.old s
-            → OnOk result (NotesReaders (topic_setting F.answer (T.state topics.old).snapshot)
-            s.book (T.state topics.new)) }
-        ensures refused { (s : CalcState)
-            → InRound F.answer (T.state topics.old).snapshot self.old s
-            → OnErr result (InRound F.answer (T.state topics.new).snapshot self.new s) }
-        ensures reads { OnErr result (ReadsInRound F.answer (T.state topics.new) self.new) }
+        ensures runs { (s : CalcState)
+            → InRound (setting_over F.answer (T.state topics.old) log.now self.old)
+            round self.old s
+            → InRound (setting_over F.answer (T.state topics.new) log.now self.new)
+            round self.new s }
+        ensures settled { OnOk result ((s : CalcState)
+            → InRound (setting_over F.answer (T.state topics.old) log.now self.old)
+            round self.old s
+            → IsSettled (setting_over F.answer (T.state topics.new) log.now self.new)
+            round self.new s) }
+        ensures reads { ReadsInRound
+            (setting_over F.answer (T.state topics.new) log.now self.new)
+            (T.state topics.new) self.new }
     {
         evaluate::<F, T, Brand>(
             self.alloc,
             Blank::new(1),
             round,
             &self.book,
+            log,
             addins,
             topics,
             &mut self.chain,
             &mut self.store,
-        )?;
-        // From here on nothing takes memory.
+            &mut self.work,
+        )
+    }
+
+    /// Whether a call is open. Where all that can be has been evaluated, this is whether a stale cell asks for a call.
+    pub fn has_open_calls(&self) -> bool
+        ensures none { result ≡ false → self.now.work.calls.calls ≡ [] }
+        ensures asked { (terms : HostTerms) (now : Setting) (round : ℕ) (s : CalcState)
+            → terms.session ≡ s.session → IsSettled now round self.now s
+            → result ≡ nat_lt 0 (length (asked_calls terms now round s)) }
+    {
+        self.work.calls.first().is_some()
+    }
+
+    /// The open calls, in cell order. Where all that can be has been evaluated, they are those for which stale cells ask.
+    pub fn calls(&self) -> Result<Vec<Call>, Memory>
+        ensures open_calls { IfOk result (λ calls. calls.items
+            ≡ map (λ entry. entry.call) self.now.work.calls.calls) }
+        ensures asked { (terms : HostTerms) (now : Setting) (round : ℕ) (s : CalcState)
+            → terms.session ≡ s.session → IsSettled now round self.now s
+            → IfOk result (λ calls. calls.items ≡ asked_calls terms now round s) }
+    {
+        self.work.calls.list()
+    }
+
+    /// Whether a handle is that of an open call. Where all that can be has been evaluated, this is whether a stale cell asks
+    /// for its call.
+    pub fn is_open(&self, handle: &Handle) -> bool
+        ensures live { result ≡ is_live self.now.work.calls.calls handle.now }
+        ensures asked { (terms : HostTerms) (now : Setting) (round : ℕ) (s : CalcState)
+            → terms.session ≡ s.session → IsSettled now round self.now s
+            → result ≡ list_any (λ call. same_handle handle.now call.handle)
+            (asked_calls terms now round s) }
+    {
+        match self.work.calls.handle_of(handle.cell) {
+            Some(live) => live == *handle,
+            None => false,
+        }
+    }
+
+    /// Ends the call of a handle, for which a value was accepted, and puts its cell down to be looked at; false exactly where
+    /// the handle isn't that of an open call, and then nothing changes. It takes no memory.
+    pub fn redeem(&mut self, handle: &Handle) -> bool
+        requires runs { IsRunning self.old }
+        ensures live { result ≡ is_live self.old.work.calls.calls handle.now }
+        ensures refused { result ≡ false → self.new ≡ self.old }
+
+        // It goes on in any setting that differs at most in the accepted values of the cell, where the readings of the cell
+        // are forgotten.
+        ensures ended { (earlier later : Setting) (round : ℕ) (s : CalcState) → result ≡ true
+            → DifferAtCell earlier later handle.now.cell → InRound earlier round self.old s
+            → InRound later round self.new s }
+        ensures reads { (earlier later : Setting) (round : ℕ) (s : CalcState) → result ≡ true
+            → DifferAtCell earlier later handle.now.cell → InRound earlier round self.old s
+            → (old new : SourceState) → ForgetsReader old new handle.now.cell
+            → ReadsInRound earlier old self.old → ReadsInRound later new self.new }
+    {
+        if self.work.calls.redeem(handle).is_none() {
+            return false;
+        }
+        self.work.waiting.push_reserved(handle.cell);
+        true
+    }
+
+    /// Completes the recalculation, where all is evaluated and no call is open, and answers how many cells were stale: the
+    /// sheet shows what came out. It takes no memory.
+    pub fn complete(&mut self) -> u64
+        ensures count { (now : Setting) (round : ℕ) (s : CalcState) → InRound now round self.old s
+            → result ≡ stale_count s.book s.changed }
+        ensures rest { (now : Setting) (round : ℕ) (s : CalcState)
+            → IsSettled now round self.old s → self.old.work.calls.calls ≡ []
+            → AtRest self.new (calc_settle s now) }
+        ensures read { (now : Setting) (round : ℕ) (s : CalcState) (source : SourceState)
+            → IsSettled now round self.old s → self.old.work.calls.calls ≡ []
+            → ReadsInRound now source self.old → NotesReaders now s.book source }
+    {
         let count = self.marks.count();
         self.store.complete();
         self.marks.clear();
         self.changed.clear();
-        Ok(count as u64)
+        count as u64
     }
 
-    /// Gives the recalculation up: the sheet shows what it showed, and the changed cells stay so. It takes no memory.
+    /// Gives the recalculation up: the sheet shows what it showed, the changed cells stay so, and no call is open. It takes
+    /// no memory.
     pub fn cancel(&mut self)
-        ensures { (answer : Answers) (now : OneTopic → OneValue) (s : CalcState)
-            → InRound answer now self.old s → AtRest answer self.new s }
+        ensures { (now : Setting) (round : ℕ) (s : CalcState)
+            → InRound now round self.old s → AtRest self.new s }
     {
         // Cells that were evaluated are stale still, so that the next recalculation evaluates them again.
-        self.marks = Marks::new(self.alloc);
+        self.marks.clear();
+        self.work.waiting.clear();
+        self.work.calls.cancel_all();
     }
 
     /// What the sheet shows: the cells with content at the last completed recalculation, in cell order.
     pub fn sheet(&self) -> Result<Vec<(Cell, Option<Value>)>, Memory>
-        ensures { (answer : Answers) (s : CalcState) → Holds answer self.now s
-            → IfOk result (λ sheet. sheet.items
-            ≡ sheet_of (topic_setting answer s.snapshot) s.completed) }
+        ensures { (s : CalcState) → Holds self.now s
+            → IfOk result (λ sheet. sheet.items ≡ sheet_of s.setting s.completed) }
     {
         self.store.sheet(self.alloc)
     }

@@ -6,10 +6,11 @@ mod beginning;
 mod calc_books;
 mod calling;
 mod edits;
+mod evaluating;
 mod noting;
-mod settling;
 #[cfg(test)]
 mod tests;
 
+pub use async_handles::{Call, Handle};
 pub use calc_books::CalcBook;
 pub use cell_values::Memory;

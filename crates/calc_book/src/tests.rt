@@ -1,12 +1,13 @@
 ghost use Rattle.std.specs.Prelude.{◌≡◌, [], ◌∷◌, ◌++◌, not, IfOk, OnOk, OnErr, map};
 ghost use Rattle.std.specs.List.{filter};
-ghost use Rattle.calc_book.specs.Samples.{Stands, feed_state};
+ghost use Rattle.calc_book.specs.Samples.{IsNew, IsUnderWay, IsWorked, Stands, feed_state};
 ghost use Rattle.cell_refs.specs.Cell.{is_among};
 
 use super::{CalcBook, Memory};
-use addin_types::SampleAddIns;
-use cell_refs::Cell;
-use cell_values::{Topic, Value};
+use addin_types::{Kind, Registration, SampleAddIns};
+use cell_refs::{Cell, Handle};
+use cell_values::{Name, Topic, Value};
+use command_log::CommandLog;
 use formula_parse::parse;
 use std::alloc::Global;
 use std::process::Abort;
@@ -65,11 +66,13 @@ fn keep_reading(readings: &mut Vec<(Topic, Cell)>, topic: Topic, reader: Cell) -
     }
 }
 
-/// A book with the source of its topics.
+/// A book with the source of its topics, and a log with room for so many entries.
 #[derive(Drop)]
 struct Desk {
     book: CalcBook,
     feed: Feed,
+    log: CommandLog,
+    left: u32,
 }
 
 /// A cell of the first column.
@@ -81,23 +84,60 @@ fn cell(row: u32) -> Cell {
     }
 }
 
-/// An empty book.
-fn new_desk(alloc: Global) -> Desk
-    ensures { Stands result.book result.feed.value result.feed.readings.items }
+/// Registers a function of one argument.
+fn register(alloc: Global, book: &mut CalcBook, name: &str, kind: Kind) -> Result<(), Fail>
+    requires { IsNew book.old }
+    ensures { OnOk result (IsNew book.new) }
 {
-    Desk {
-        book: CalcBook::new(alloc),
+    let name = Name::new(alloc, name)?;
+    let registration = Registration {
+        kind,
+        arguments: 1,
+        thread_safe: false,
+    };
+    book.register(name, registration)?;
+    Ok(())
+}
+
+/// An empty book, where `DOUBLE` and the asynchronous `SLOW` are registered.
+fn new_book(alloc: Global) -> Result<CalcBook, Fail>
+    ensures { IfOk result IsNew }
+{
+    let mut book = CalcBook::new(alloc, 7);
+    register(alloc, &mut book, "DOUBLE", Kind::Plain)?;
+    register(
+        alloc,
+        &mut book,
+        "SLOW",
+        Kind::Asynchronous { handle_place: 0 },
+    )?;
+    Ok(book)
+}
+
+/// An empty book with a source and a log.
+fn new_desk(alloc: Global) -> Result<Desk, Fail>
+    ensures { IfOk result (λ desk. Stands desk.book desk.log desk.left desk.feed.value
+        desk.feed.readings.items) }
+{
+    let book = new_book(alloc)?;
+    let log = CommandLog::open(alloc, 100)?;
+    Ok(Desk {
+        book,
         feed: Feed {
             value: 10,
             readings: Vec::new(alloc),
         },
-    }
+        log,
+        left: 100,
+    })
 }
 
 /// Gives a row a content.
 fn set(desk: &mut Desk, row: u32, content: Content) -> Result<(), Fail>
-    requires { Stands desk.old.book desk.old.feed.value desk.old.feed.readings.items }
-    ensures { OnOk result (Stands desk.new.book desk.new.feed.value desk.new.feed.readings.items) }
+    requires { Stands desk.old.book desk.old.log desk.old.left desk.old.feed.value
+        desk.old.feed.readings.items }
+    ensures { OnOk result (Stands desk.new.book desk.new.log desk.new.left desk.new.feed.value
+        desk.new.feed.readings.items) }
 {
     match desk.book.set(cell(row), content) {
         Ok(()) => {}
@@ -108,8 +148,10 @@ fn set(desk: &mut Desk, row: u32, content: Content) -> Result<(), Fail>
 
 /// Takes the content of a row away.
 fn clear(desk: &mut Desk, row: u32) -> Result<(), Fail>
-    requires { Stands desk.old.book desk.old.feed.value desk.old.feed.readings.items }
-    ensures { OnOk result (Stands desk.new.book desk.new.feed.value desk.new.feed.readings.items) }
+    requires { Stands desk.old.book desk.old.log desk.old.left desk.old.feed.value
+        desk.old.feed.readings.items }
+    ensures { OnOk result (Stands desk.new.book desk.new.log desk.new.left desk.new.feed.value
+        desk.new.feed.readings.items) }
 {
     desk.book.clear(cell(row))?;
     Ok(())
@@ -128,8 +170,10 @@ fn readers_of(alloc: Global, readings: &[(Topic, Cell)]) -> Result<Vec<Cell>, Me
 
 /// Gives each topic a value, and notes its readers.
 fn publish(alloc: Global, desk: &mut Desk, value: i64) -> Result<(), Fail>
-    requires { Stands desk.old.book desk.old.feed.value desk.old.feed.readings.items }
-    ensures { OnOk result (Stands desk.new.book desk.new.feed.value desk.new.feed.readings.items) }
+    requires { Stands desk.old.book desk.old.log desk.old.left desk.old.feed.value
+        desk.old.feed.readings.items }
+    ensures { OnOk result (Stands desk.new.book desk.new.log desk.new.left desk.new.feed.value
+        desk.new.feed.readings.items) }
 {
     let readers = readers_of(alloc, desk.feed.readings.as_slice())?;
     desk.book.note_changed(readers.as_slice())?;
@@ -139,8 +183,10 @@ fn publish(alloc: Global, desk: &mut Desk, value: i64) -> Result<(), Fail>
 
 /// Notes the callers of RTD.
 fn name_server(desk: &mut Desk) -> Result<(), Fail>
-    requires { Stands desk.old.book desk.old.feed.value desk.old.feed.readings.items }
-    ensures { OnOk result (Stands desk.new.book desk.new.feed.value desk.new.feed.readings.items) }
+    requires { Stands desk.old.book desk.old.log desk.old.left desk.old.feed.value
+        desk.old.feed.readings.items }
+    ensures { OnOk result (Stands desk.new.book desk.new.log desk.new.left desk.new.feed.value
+        desk.new.feed.readings.items) }
 {
     desk.book.note_rtd_callers()?;
     Ok(())
@@ -148,8 +194,10 @@ fn name_server(desk: &mut Desk) -> Result<(), Fail>
 
 /// Begins a recalculation and gives it up.
 fn begin_in_vain(desk: &mut Desk) -> Result<(), Fail>
-    requires { Stands desk.old.book desk.old.feed.value desk.old.feed.readings.items }
-    ensures { OnOk result (Stands desk.new.book desk.new.feed.value desk.new.feed.readings.items) }
+    requires { Stands desk.old.book desk.old.log desk.old.left desk.old.feed.value
+        desk.old.feed.readings.items }
+    ensures { OnOk result (Stands desk.new.book desk.new.log desk.new.left desk.new.feed.value
+        desk.new.feed.readings.items) }
 {
     let _forgotten = desk.book.begin(BeginKind::Dirty)?;
     desk.book.cancel();
@@ -158,8 +206,10 @@ fn begin_in_vain(desk: &mut Desk) -> Result<(), Fail>
 
 /// Makes an edit.
 fn enter(alloc: Global, desk: &mut Desk, row: u32, edit: Edit) -> Result<(), Fail>
-    requires { Stands desk.old.book desk.old.feed.value desk.old.feed.readings.items }
-    ensures { OnOk result (Stands desk.new.book desk.new.feed.value desk.new.feed.readings.items) }
+    requires { Stands desk.old.book desk.old.log desk.old.left desk.old.feed.value
+        desk.old.feed.readings.items }
+    ensures { OnOk result (Stands desk.new.book desk.new.log desk.new.left desk.new.feed.value
+        desk.new.feed.readings.items) }
 {
     match edit {
         Edit::Number(n) => set(desk, row, Content::Num(n)),
@@ -198,15 +248,93 @@ fn kept(
     Ok(kept)
 }
 
-/// Recalculates, and answers how many cells were stale.
-fn recalculate(alloc: Global, desk: &mut Desk, kind: BeginKind) -> Result<u64, Fail>
-    requires { Stands desk.old.book desk.old.feed.value desk.old.feed.readings.items }
-    ensures { OnOk result (Stands desk.new.book desk.new.feed.value desk.new.feed.readings.items) }
+/// Begins a recalculation.
+fn begin(alloc: Global, desk: &mut Desk, kind: BeginKind) -> Result<(), Fail>
+    requires { Stands desk.old.book desk.old.log desk.old.left desk.old.feed.value
+        desk.old.feed.readings.items }
+    ensures { OnOk result (IsUnderWay desk.new.book desk.new.log desk.new.left
+        desk.new.feed.value desk.new.feed.readings.items) }
 {
     let forgotten = desk.book.begin(kind)?;
     desk.feed.readings = kept(alloc, desk.feed.readings.as_slice(), forgotten.as_slice())?;
-    let count = desk.book.settle(1, &SampleAddIns, &mut desk.feed)?;
-    Ok(count)
+    desk.log.forget(forgotten.as_slice());
+    Ok(())
+}
+
+/// Evaluates what can be.
+fn work_out(desk: &mut Desk) -> Result<(), Fail>
+    requires { IsUnderWay desk.old.book desk.old.log desk.old.left desk.old.feed.value
+        desk.old.feed.readings.items }
+    ensures { OnOk result (IsWorked desk.new.book desk.new.log desk.new.left
+        desk.new.feed.value desk.new.feed.readings.items) }
+{
+    desk.book
+        .work_out(1, &desk.log, &SampleAddIns, &mut desk.feed)?;
+    Ok(())
+}
+
+/// Returns 100 for the call of a handle.
+fn return_value(alloc: Global, desk: &mut Desk, handle: &Handle) -> Result<(), Fail>
+    requires { IsUnderWay desk.old.book desk.old.log desk.old.left desk.old.feed.value
+        desk.old.feed.readings.items }
+    ensures { OnOk result (IsUnderWay desk.new.book desk.new.log desk.new.left
+        desk.new.feed.value desk.new.feed.readings.items) }
+{
+    if desk.left == 0 {
+        return Err(Fail::from("too many values"));
+    }
+    desk.log.reserve(1)?;
+    let readings = kept(alloc, desk.feed.readings.as_slice(), &[handle.cell])?;
+    if !desk.book.redeem(handle) {
+        return Err(Fail::from("a handle isn't that of an open call"));
+    }
+    desk.feed.readings = readings;
+    desk.log.accept(1, *handle, Value::Num(100));
+    desk.left -= 1;
+    Ok(())
+}
+
+/// Returns 100 for the first open call.
+fn return_first(alloc: Global, desk: &mut Desk) -> Result<(), Fail>
+    requires { IsUnderWay desk.old.book desk.old.log desk.old.left desk.old.feed.value
+        desk.old.feed.readings.items }
+    ensures { OnOk result (IsUnderWay desk.new.book desk.new.log desk.new.left
+        desk.new.feed.value desk.new.feed.readings.items) }
+{
+    let calls = desk.book.calls()?;
+    match calls.as_slice().first() {
+        Some(call) => return_value(alloc, desk, &call.handle),
+        None => Err(Fail::from("no call is open")),
+    }
+}
+
+/// Completes a recalculation in which no call is open; answers how many cells were stale.
+fn complete(desk: &mut Desk) -> u64
+    requires worked { IsWorked desk.old.book desk.old.log desk.old.left desk.old.feed.value
+        desk.old.feed.readings.items }
+    requires calls { desk.old.book.work.calls.calls ≡ [] }
+    ensures { Stands desk.new.book desk.new.log desk.new.left desk.new.feed.value
+        desk.new.feed.readings.items }
+{
+    desk.book.complete()
+}
+
+/// Recalculates, returning 100 for each call, and answers how many cells were stale.
+fn recalculate(alloc: Global, desk: &mut Desk, kind: BeginKind) -> Result<u64, Fail>
+    requires { Stands desk.old.book desk.old.log desk.old.left desk.old.feed.value
+        desk.old.feed.readings.items }
+    ensures { OnOk result (Stands desk.new.book desk.new.log desk.new.left desk.new.feed.value
+        desk.new.feed.readings.items) }
+{
+    begin(alloc, desk, kind)?;
+    'calls: for _ in 0..10 {
+        work_out(desk)?;
+        if !desk.book.has_open_calls() {
+            return Ok(complete(desk));
+        }
+        return_first(alloc, desk)?;
+    }
+    Err(Fail::from("calls stay open"))
 }
 
 /// Recalculates where a kind is given, and asserts how many cells were stale.
@@ -217,8 +345,10 @@ fn recalculate_if(
     kind: Option<BeginKind>,
     stale: u64,
 ) -> Result<(), Fail>
-    requires { Stands desk.old.book desk.old.feed.value desk.old.feed.readings.items }
-    ensures { OnOk result (Stands desk.new.book desk.new.feed.value desk.new.feed.readings.items) }
+    requires { Stands desk.old.book desk.old.log desk.old.left desk.old.feed.value
+        desk.old.feed.readings.items }
+    ensures { OnOk result (Stands desk.new.book desk.new.log desk.new.left desk.new.feed.value
+        desk.new.feed.readings.items) }
 {
     if let Some(kind) = kind {
         let found = recalculate(alloc, desk, kind)?;
@@ -272,7 +402,7 @@ fn assert_chain(rt: &impl Abort, book: &CalcBook, order: &[u32], after: usize) -
 
 /// Makes all steps, from an empty book on.
 fn assert_steps(rt: &impl Abort, alloc: Global, steps: &[Step]) -> Result<(), Fail> {
-    let mut desk = new_desk(alloc);
+    let mut desk = new_desk(alloc)?;
     for (after, (row, edit, kind, stale, shown, order)) in steps.iter().enumerate() {
         enter(alloc, &mut desk, *row, *edit)?;
         recalculate_if(rt, alloc, &mut desk, *kind, *stale)?;
@@ -543,6 +673,77 @@ fn a_topic_keeps_its_value_through_a_recalculation(rt: HostRuntime) -> Result<()
             3,
             &[(1, Some(30)), (2, Some(31)), (3, Some(8))],
             &[1, 2, 3],
+        ),
+    ];
+    assert_steps(&rt, rt.alloc(), &steps)
+}
+
+#[test]
+fn a_cell_is_shown_once_its_calls_have_ended(rt: HostRuntime) -> Result<(), Fail> {
+    let steps: [Step; 7] = [
+        (1, Edit::Number(2), None, 0, &[], &[]),
+        (2, Edit::Formula("=SLOW(A1)"), None, 0, &[], &[2]),
+        (
+            3,
+            Edit::Formula("=DOUBLE(A2)+SLOW(3)+SLOW(A2)"),
+            Some(BeginKind::Dirty),
+            2,
+            &[(1, Some(2)), (2, Some(100)), (3, Some(400))],
+            &[2, 3],
+        ),
+        // Both keep their values where nothing changed.
+        (
+            4,
+            Edit::Formula("=A3"),
+            Some(BeginKind::Dirty),
+            1,
+            &[
+                (1, Some(2)),
+                (2, Some(100)),
+                (3, Some(400)),
+                (4, Some(400)),
+            ],
+            &[2, 3, 4],
+        ),
+        (
+            2,
+            Edit::Number(5),
+            None,
+            0,
+            &[
+                (1, Some(2)),
+                (2, Some(100)),
+                (3, Some(400)),
+                (4, Some(400)),
+            ],
+            &[3, 4],
+        ),
+        (
+            1,
+            Edit::Cancel,
+            None,
+            0,
+            &[
+                (1, Some(2)),
+                (2, Some(100)),
+                (3, Some(400)),
+                (4, Some(400)),
+            ],
+            &[3, 4],
+        ),
+        // A stale cell asks again.
+        (
+            1,
+            Edit::Nothing,
+            Some(BeginKind::Dirty),
+            2,
+            &[
+                (1, Some(2)),
+                (2, Some(5)),
+                (3, Some(210)),
+                (4, Some(210)),
+            ],
+            &[3, 4],
         ),
     ];
     assert_steps(&rt, rt.alloc(), &steps)

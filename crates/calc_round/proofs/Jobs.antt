@@ -1,6 +1,7 @@
 -- The job of a cell comes to the cell's meaning, and reads the topics that the cell reads.
-use Rattle.std.proofs.Common.{◌≡◌, ℕ, Bool, true, false, not, cond, ◌||◌, ◌&&◌, inl, inr, Option, None, Some, is_some, unwrap_or, List, [], ◌∷◌, refl, ap, sym, subst, ◌∙◌}
+use Rattle.std.proofs.Common.{◌≡◌, ℕ, Bool, true, false, not, cond, ◌||◌, ◌&&◌, nat_eq, Option, None, Some, is_some, unwrap_or, List, [], ◌∷◌, refl, ap, sym, subst, ◌∙◌}
 use Rattle.std.specs.List.{All, AllByRecursion, flat_map, list_any}
+use Rattle.std.specs.Map.{lookup}
 use Rattle.std.specs.Option.{option_map}
 use Rattle.std.proofs.lemmas.Bool.{or_left, or_right}
 use Rattle.std.proofs.lemmas.List.Elements.{All-from_recursion}
@@ -21,16 +22,17 @@ use Rattle.formula_parse.specs.Tree.{areas_named, precedents, sites_named}
 use Rattle.workbook.specs.declared.contents.Content.{Content}
 use Rattle.workbook.specs.declared.contents.Content.TheVariants as contents
 use Rattle.workbook.specs.Agreement.{AgreesBesideTopics}
-use Rattle.workbook.specs.Book.{IsInOrder, by_content, cell_precedents, content_at, content_precedents, formula_count, has_formula, is_formula}
+use Rattle.workbook.specs.Book.{BookState, IsInOrder, by_content, cell_precedents, content_at, content_precedents, formula_count, has_formula, is_formula}
 use Rattle.workbook.specs.Circular.{is_circular, walks_on}
 use Rattle.workbook.specs.Evaluation as answers
 use Rattle.workbook.specs.Evaluation.{Answer}
-use Rattle.workbook.specs.Meaning.{Circ, Meaning, Open, Setting, Val, content_meaning, is_open, meaning, meaning_of_answer, value_in}
+use Rattle.workbook.specs.Meaning.{Asks, Circ, Meaning, Open, Setting, Val, content_meaning, is_open, meaning, meaning_of_answer, value_in}
 use Rattle.workbook.specs.Reads.{answer_knowing, cell_reads, is_evaluated, is_listed, topics_read, world_in}
 use Rattle.workbook.specs.Registry.{registration_of}
-use Rattle.workbook.proofs.PublicLaws.{answer_alike, cell_listed, circular-names, circular_or_valued, each_leads, meaning-unfolds, read_alike, shows_circle, walks-formula}
-use Rattle.calc_round.specs.Looks.{IsJobOf, answer_value}
-use Rattle.calc_round.specs.Rounds.{PresentMeans, is_unfinished, names_unfinished, topic_setting}
+use Rattle.workbook.proofs.PublicLaws.{answer_alike, cell_listed, circular-names, each_leads, meaning-unfolds, read_alike, shows_circle, walks-formula}
+use Rattle.calc_round.specs.Looks.{IsJobOf}
+use Rattle.calc_round.specs.Rounds.{PresentMeans, is_unfinished, names_unfinished, round_setting}
+use Rattle.calc_round.proofs.Registered.{each-registered}
 
 -- ---- lists and tests
 
@@ -42,10 +44,6 @@ none_of : (p : Cell → Bool) (cells : List Cell) → AllByRecursion (λ d. p d 
 none_of p [] each = refl
 none_of p (c ∷ cells) each = ap (λ b. b || list_any p cells) each.0 ∙ none_of p cells each.1
 
-each_of : {X : Type 0} (P : X → Type 0) → ((x : X) → P x) → (xs : List X) → AllByRecursion P xs
-each_of P each [] = tt
-each_of P each (x ∷ xs) = (each x, each_of P each xs)
-
 -- ---- a cell that isn't ready
 
 -- a formula names the cells of its areas
@@ -56,26 +54,19 @@ names-unknown book store cell tree areas is named found =
     ∙ ap (λ all. list_any (is_unfinished store) (flat_map cells_of all)) (sym named)
     ∙ some_among (is_unfinished store) (flat_map cells_of areas) found.0 (sym (lies_in-among areas found.0) ∙ found.1) (ap has_no_value found.2)
 
--- ---- meanings of answers
-
-never_circular : (a : Answer) → meaning_of_answer a ≡ Circ → ⊥
-never_circular (answers.Val v) h = cc
-never_circular (answers.Asks site name args) h = cc
-never_circular (answers.Needs topic) h = cc
-
-value_of : (a : Answer) (v : Value) → meaning_of_answer a ≡ Val v → answer_value a ≡ Some v
-value_of (answers.Val w) v h = let same : w ≡ v = cc in ap Some same
-value_of (answers.Asks site name args) v h = cc
-value_of (answers.Needs topic) v h = cc
+-- ---- meanings of cells
 
 absent : (o : Option Content) → is_some o ≡ false → o ≡ None
 absent None h = refl
 absent (Some content) h = cc
 
-module _ (answer : List ℕ → List Value → Value) (snapshot : Topic → Value) (book : List (Cell × Content)) (ordered : IsInOrder book) (store : StoreState)
-    (means : PresentMeans (topic_setting answer snapshot) book store) where
+module _ (answer : List ℕ → List Value → Value) (snapshot : Topic → Value) (results : Cell → List (ℕ × Value)) (state : BookState) (ordered : IsInOrder state.contents) (store : StoreState)
+    (means : PresentMeans (round_setting answer snapshot results state.functions) state.contents store) where
   abbrev setting : Setting
-  setting = topic_setting answer snapshot
+  setting = round_setting answer snapshot results state.functions
+
+  abbrev book : List (Cell × Content)
+  book = state.contents
 
   -- a cell without content is Blank
   no_walk : (n : ℕ) (c : Cell) → is_formula book c ≡ false → walks_on book n c ≡ false
@@ -120,7 +111,7 @@ module _ (answer : List ℕ → List Value → Value) (snapshot : Topic → Valu
   both_not false true h k = cc
   both_not false false h k = refl
 
-  module _ (cell : Cell) (job : Job) (is : IsJobOf book store cell job) where
+  module _ (cell : Cell) (job : Job) (is : IsJobOf state results store cell job) where
     -- the cells that the formula names mean its inputs
     each_means : AllByRecursion (λ d. meaning setting book d ≡ Val (input_of job.inputs d)) (precedents job.tree cell.sheet)
     each_means = inputs_mean (areas_named job.tree cell.sheet) job.inputs is.inputs
@@ -147,8 +138,9 @@ module _ (answer : List ℕ → List Value → Value) (snapshot : Topic → Valu
       home = ap (λ (c : Cell). c.sheet) is.home;
       input = subst (λ (c : Cell). All (λ d. input_of job.inputs d ≡ value_in (meaning setting book d)) (precedents job.tree c.sheet)) (sym is.home)
           (All-from_recursion _ (precedents job.tree cell.sheet) (each_leads _ _ (λ d m. sym (ap value_in m)) (precedents job.tree cell.sheet) each_means));
-      registered = All-from_recursion _ (sites_named job.tree) (each_of (λ name. registration_of job.functions name ≡ None) (λ name. ap (λ functions. registration_of functions name) is.functions) (sites_named job.tree));
-      accepted = λ site low high. ap (λ results. result_at results site) is.results;
+      registered = subst (λ functions. All (λ name. registration_of functions name ≡ registration_of state.functions name) (sites_named job.tree)) (sym is.functions)
+          (each-registered state.functions (sites_named job.tree));
+      accepted = λ site low high. ap (λ entries. result_at entries site) is.results;
       answer = refl;
     }
 
@@ -159,18 +151,14 @@ module _ (answer : List ℕ → List Value → Value) (snapshot : Topic → Valu
         ∙ shut (list_any (λ d. is_open (meaning setting book d)) (precedents job.tree cell.sheet)) _ shut_all
         ∙ ap meaning_of_answer (sym (answer_alike (world_of answer job) (world_in setting book cell) job.tree agrees (λ topic. Some (snapshot topic))))
 
-    -- a value that is what the cell means
-    abbrev pub IsMeantBy : Option Value → Type 0
-    IsMeantBy value = (v : Value) × (value ≡ Some v) × (meaning setting book cell ≡ Val v)
+    -- a value that it comes to is the cell's
+    pub job-value : (v : Value) → answers.Val v ≡ answer_knowing (world_of answer job) job.tree (λ topic. Some (snapshot topic)) → meaning setting book cell ≡ Val v
+    job-value v told = job_means ∙ ap meaning_of_answer (sym told)
 
-    pub job-value : (value : Option Value) → value ≡ answer_value (answer_knowing (world_of answer job) job.tree (λ topic. Some (snapshot topic))) → IsMeantBy value
-    job-value value told =
-        let a = answer_knowing (world_of answer job) job.tree (λ topic. Some (snapshot topic)) in
-        let m = job_means in
-        elim (circular_or_valued setting (λ name. refl) book cell) as (λ _. IsMeantBy value) [
-          | inl circular ↦ absurd (never_circular a (sym m ∙ circular))
-          | inr valued ↦ (valued.0, told ∙ value_of a valued.0 (sym m ∙ valued.1), valued.1)
-        ]
+    -- a call that it asks for is the cell's
+    pub job-asks : (site : ℕ) (name : List ℕ) (args : List Value) → answers.Asks site name args ≡ answer_knowing (world_of answer job) job.tree (λ topic. Some (snapshot topic))
+        → meaning setting book cell ≡ Asks site name args
+    job-asks site name args told = job_means ∙ ap meaning_of_answer (sym told)
 
     -- the topics that it reads are those that the cell reads
     pub job-reads : (topic : Topic) → cell_reads setting book cell topic ≡ is_listed (topics_read (world_of answer job) snapshot job.tree) topic

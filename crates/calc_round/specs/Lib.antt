@@ -1,4 +1,5 @@
 -- What the product means.
+pub mod Accepting
 pub mod Readings
 pub mod Rounds
 -- What the crate's own functions keep.

@@ -1,83 +1,92 @@
-//! A look at one cell: its job where it is ready, and the value that comes out.
+//! A look at one cell: its job where it is ready, and what comes out.
 
-ghost use Rattle.std.specs.Prelude.{◌≡◌, [], Ok, true, false, Some, IfOk, OnErr, MatchOption};
-ghost use Rattle.std.specs.List.Sorted.{IsStrictlySortedBy};
-ghost use Rattle.std.specs.Map.{keys_of};
-ghost use Rattle.cell_refs.specs.Cell.{cell_cmp, is_among};
-ghost use Rattle.cell_store.specs.Gathering.{AreGathered};
-ghost use Rattle.cell_store.specs.Store.{KeepsShown, KeepsTouched, is_touched, present_at};
-ghost use Rattle.formula_parse.specs.Tree.{areas_named};
+ghost use Rattle.std.specs.Prelude.{◌≡◌, ◌<◌, [], true, false, IfOk, OnErr, MatchOption};
+ghost use Rattle.cell_refs.specs.Cell.{is_among};
+ghost use Rattle.cell_store.specs.Store.{KeepsShown, KeepsTouched, is_touched};
+ghost use Rattle.command_log.specs.Log.{results_of};
+ghost use Rattle.formula_parse.specs.Tree.{sites_named};
 ghost use Rattle.topic_source.specs.Source.{KeepsValues};
-ghost use Rattle.workbook.specs.declared.contents.Content.TheVariants as contents;
-ghost use Rattle.workbook.specs.Book.{IsInOrder, content_at, is_formula};
-ghost use Rattle.workbook.specs.Meaning.{Val, meaning};
-ghost use Rattle.calc_round.specs.Looks.{Finishes, IsJobOf, IsReordered};
+ghost use Rattle.workbook.specs.Book.{IsInOrder, is_formula};
+ghost use Rattle.calc_round.specs.Looks.{IsJobOf, IsReordered, LookDoes, registered_among, setting_for};
 ghost use Rattle.calc_round.specs.Readings.{ReadsFollow};
-ghost use Rattle.calc_round.specs.Rounds.{PresentMeans, is_unfinished, names_unfinished, topic_setting};
+ghost use Rattle.calc_round.specs.Rounds.{PresentMeans, has_call, is_unfinished, names_unfinished};
 
+use super::answered::Answered;
+use super::looked::Looked;
 use super::places::{place_behind_named, place_behind_unfinished};
-use super::valuing::value_of_job;
+use super::registrations::registrations_of;
+use super::valuing::answer_of_job;
 use addin_types::AddIns;
+use async_handles::Handles;
 use cell_chain::CellChain;
-use cell_eval::{Inputs, Job, Registrations, Results, Topics};
+use cell_eval::{Inputs, Job, Results, Topics};
 use cell_refs::Cell;
 use cell_store::CellStore;
 use cell_values::Memory;
+use command_log::CommandLog;
 use formula_parse::{Tree, names};
 use std::alloc::Global;
 use topic_source::TopicSource;
 use workbook::{Book, Content};
 
-/// What a recalculation looks at cells with: its number, the book, and what added functions answer.
+/// What a recalculation looks at cells with: its number, the book, the accepted values, and what added functions answer.
 #[derive(Drop)]
 pub struct Looker<'a, F> {
     pub alloc: Global,
     pub round: u64,
     pub book: &'a Book,
+    pub log: &'a CommandLog,
     pub addins: &'a F,
 }
 
 impl<'a, F: AddIns> Looker<'a, F> {
-    /// Gives an unfinished cell its value, where all cells that it names have theirs. Answers whether it did.
+    /// Gives an unfinished cell its value, or opens the call that it asks for, where all cells that it names have their
+    /// values.
     pub fn look<T: TopicSource>(
         &self,
         topics: &mut T,
         chain: &mut CellChain,
         store: &mut CellStore,
+        calls: &mut Handles,
         cell: Cell,
-    ) -> Result<bool, Memory>
-        requires means { PresentMeans (topic_setting F.answer (T.state topics.old).snapshot)
-            self.now.book.now.contents store.old }
-        requires reads { ReadsFollow F.answer (T.state topics.old) self.now.book.now.contents
+    ) -> Result<Looked, Memory>
+        requires means { PresentMeans (setting_for F.answer (T.state topics.old).snapshot
+            self.now.log.now self.now.book.now) self.now.book.now.contents store.old }
+        requires reads { ReadsFollow (setting_for F.answer (T.state topics.old).snapshot
+            self.now.log.now self.now.book.now) (T.state topics.old) self.now.book.now.contents
             store.old }
         requires ordered { IsInOrder self.now.book.now.contents }
         requires unfinished { is_unfinished store.old cell ≡ true }
         requires touched { is_touched store.old cell ≡ true }
         requires entry { is_among chain.old.entries cell ≡ true }
         requires idle { is_among chain.old.due cell ≡ false }
+        requires free { has_call calls.old.calls cell ≡ false }
+        requires spare { 0 < calls.old.spare }
         ensures chain { IsReordered chain.old chain.new }
-        ensures finished { result ≡ Ok true
-            → Finishes (topic_setting F.answer (T.state topics.old).snapshot)
-            self.now.book.now.contents store.old store.new cell }
+        ensures did { IfOk result (LookDoes (setting_for F.answer (T.state topics.old).snapshot
+            self.now.log.now self.now.book.now) self.now.book.now.contents self.now.round
+            store.old store.new calls.old calls.new cell) }
+        ensures store { OnErr result (store.new ≡ store.old) }
+        ensures calls { OnErr result (calls.new ≡ calls.old) }
         ensures values { KeepsValues (T.state topics.old) (T.state topics.new) }
-        ensures reads { ReadsFollow F.answer (T.state topics.new) self.now.book.now.contents
+        ensures reads { ReadsFollow (setting_for F.answer (T.state topics.old).snapshot
+            self.now.log.now self.now.book.now) (T.state topics.new) self.now.book.now.contents
             store.new }
-        ensures waits { result ≡ Ok false
-            → names_unfinished self.now.book.now.contents store.old cell ≡ true }
-        ensures idle { result ≡ Ok false → store.new ≡ store.old }
-        ensures refused { OnErr result (store.new ≡ store.old) }
         ensures shown { KeepsShown store.old store.new }
         ensures touched { KeepsTouched store.old store.new }
     {
         let Some(job) = self.take(chain, store, cell)? else {
-            return Ok(false);
+            return Ok(Looked::Waits);
         };
-        match value_of_job(self.alloc, job, self.addins, topics)? {
-            Some(value) => {
+        match answer_of_job(self.alloc, job, self.addins, topics)? {
+            Answered::Value(value) => {
                 store.finish(cell, value);
-                Ok(true)
+                Ok(Looked::Finished)
             }
-            None => unreachable!(),
+            Answered::Asks { site, name, args } => {
+                calls.issue(self.round, cell, site, name, args);
+                Ok(Looked::Asked)
+            }
         }
     }
 
@@ -95,7 +104,7 @@ impl<'a, F: AddIns> Looker<'a, F> {
         ensures chain { IsReordered chain.old chain.new }
         ensures job { IfOk result (λ job. MatchOption job
             (names_unfinished self.now.book.now.contents store.now cell ≡ true)
-            (IsJobOf self.now.book.now.contents store.now cell)) }
+            (IsJobOf self.now.book.now (results_of self.now.log.now) store.now cell)) }
     {
         let Some(Content::Formula(tree)) = self.book.get(cell) else {
             unreachable!();
@@ -121,8 +130,8 @@ impl<'a, F: AddIns> Looker<'a, F> {
           tree = tree.now;
           inputs = inputs;
           topics = [];
-          results = [];
-          functions = [];
+          results = results_of self.now.log.now cell;
+          functions = registered_among self.now.book.now.functions (sites_named tree.now);
         }) }
     {
         Ok(Job {
@@ -131,8 +140,8 @@ impl<'a, F: AddIns> Looker<'a, F> {
             tree: tree.copy()?,
             inputs,
             topics: Topics::new(Vec::new(self.alloc)),
-            results: Results::new(Vec::new(self.alloc)),
-            functions: Registrations::new(Vec::new(self.alloc)),
+            results: Results::new(self.log.results(self.alloc, cell)?),
+            functions: registrations_of(self.alloc, self.book, tree)?,
         })
     }
 }

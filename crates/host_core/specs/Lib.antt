@@ -1,7 +1,2 @@
 -- What the product means.
 pub mod HostState
--- What the crate's own functions keep.
-pub mod HostParts
-pub mod HostKeeping
-pub mod Standing
-pub mod Samples

@@ -1,13 +1,11 @@
-ghost use Rattle.std.specs.Prelude.{◌≡◌, ◌<◌, ◌≤◌, ◌++◌, ◌∷◌, [], vec_capacity, vec_len};
+ghost use Rattle.std.specs.Prelude.{◌≡◌, ◌<◌, [], false, length, IfOk, IsTrue};
 
-use super::round_books::RoundBook;
 use addin_types::AddIns;
-use cell_refs::Cell;
 use cell_values::Memory;
 use rtd_server::Maker;
 use std::alloc::Global;
 use std::marker::Model;
-use workbook::{Book, Command, Entry, Reply};
+use workbook::{Command, Entry};
 
 /// Why a command isn't answered; it is given back.
 #[derive(Drop)]
@@ -17,24 +15,21 @@ pub enum ActFault {
     Memory(Command),
 }
 
-/// A host, with a maker of its servers, none of which fails, and add-in functions.
+/// A host that answers nothing.
 #[derive(Drop)]
 pub struct Host<M: Maker + Drop, F: AddIns + Drop> {
     session: u64,
     limit: usize,
     maker: M,
     addins: F,
-    book: RoundBook<M::Server>,
     history: Vec<Entry>,
 }
 
 impl<M: Maker + Drop, F: AddIns + Drop> Model for Host<M, F> {
-    ghost use Rattle.std.specs.Prelude.{◌+◌, ◌<◌, ◌≤◌, IsTrue, length, vec_capacity};
+    ghost use Rattle.std.specs.Prelude.{◌≤◌, length};
     ghost use Rattle.formula_parse.specs.contracts.nodes.Node as e;
     ghost use Rattle.host_core.specs.HostState.{HostState};
-    ghost use Rattle.host_core.specs.Standing.{Stands, terms_with};
     ghost use Rattle.std.specs.Coded.{codes};
-    ghost use Rattle.workbook.specs.History.{state_of};
 
     ghost Value = { HostState };
 
@@ -42,27 +37,11 @@ impl<M: Maker + Drop, F: AddIns + Drop> Model for Host<M, F> {
 
     ghost view = { λ h. record { session = h.session; limit = h.limit; history = h.history.items } };
 
-    // The book stands for the state that the history gives. The history and the events have room up to the limit.
-    ghost invariant = { λ h. (0 < h.session) × (length h.history.items ≤ h.limit)
-        × (h.limit ≤ vec_capacity h.history)
-        × (h.book.round ≤ length h.history.items)
-        × (h.limit ≤ length h.history.items + h.book.events.room)
-        × IsTrue M.is_steady
-        × Stands M.Server.state F.answer h.book
-        (state_of (terms_with F.answer h.session h.limit) h.history.items) };
+    ghost invariant = { λ h. length h.history.items ≤ h.limit };
 }
 
 impl<M: Maker + Drop, F: AddIns + Drop> Host<M, F> {
-    ghost use Rattle.std.specs.Prelude.{None, IfOk, OnOk, IfErr, IsTrue, length};
-    ghost use Rattle.cell_refs.specs.declared.grid.Cell.{Cell as OneCell};
-    ghost use Rattle.cell_refs.specs.Cell.{is_among};
-    ghost use Rattle.workbook.specs.InForm.{IsInForm};
-    ghost use Rattle.host_core.specs.HostState.{IsActFault, IsDeskCommand, IsTaken, state_now, terms_of, with_entry};
-    ghost use Rattle.workbook.specs.declared.commands.Command.TheVariants as commands;
-    ghost use Rattle.workbook.specs.Book.{is_formula};
-    ghost use Rattle.workbook.specs.Step.{reply_to};
-
-    /// A host with an empty book, no servers and an empty history, for which all room is taken here.
+    /// A host with an empty history.
     pub fn open(
         alloc: Global,
         session: u64,
@@ -76,133 +55,20 @@ impl<M: Maker + Drop, F: AddIns + Drop> Host<M, F> {
         ensures { IfOk result (λ host. host
             ≡ record { session = session; limit = limit; history = [] }) }
     {
-        let history = Vec::with_capacity(alloc, limit)?;
-        let book = RoundBook::new(alloc, limit)?;
         Ok(Host {
             session,
             limit,
             maker,
             addins,
-            book,
-            history,
+            history: Vec::new(alloc),
         })
     }
 
-    /// Answers a command by the step of the state that its history gives, from nothing; the command is the next entry of
-    /// the history. A refusal changes nothing.
-    pub fn act(&mut self, actor: u32, command: Command) -> Result<Reply, ActFault>
-        requires taken { IsTaken command }
-        requires form { IsInForm command }
-        ensures reply { IfOk result (λ reply. reply
-            ≡ reply_to (terms_of F.answer self.old) [] (state_now F.answer self.old) command) }
-        ensures entry { OnOk result (self.new ≡ with_entry self.old actor command) }
-        ensures room { OnOk result (length self.old.history < self.old.limit) }
-        ensures fault { IfErr result (λ fault. IsActFault self.old command fault
-            × (self.new ≡ self.old)) }
+    /// Whether the history has as many entries as may be.
+    pub fn is_full(&self) -> bool
+        ensures full { IsTrue result → length self.now.history ≡ self.now.limit }
+        ensures room { result ≡ false → length self.now.history < self.now.limit }
     {
-        self.answer(actor, command)
+        self.history.len() >= self.limit
     }
-
-    /// Settles: completes the recalculation that runs, if one does. A refusal changes nothing that shows.
-    pub fn settle(&mut self, actor: u32) -> Result<Reply, ActFault>
-        ensures reply { IfOk result (λ reply. reply ≡ reply_to (terms_of F.answer self.old) []
-            (state_now F.answer self.old) commands.Settle) }
-        ensures entry { OnOk result (self.new ≡ with_entry self.old actor commands.Settle) }
-        ensures room { OnOk result (length self.old.history < self.old.limit) }
-        ensures fault { IfErr result (λ fault. IsActFault self.old commands.Settle fault
-            × (self.new ≡ self.old)) }
-    {
-        self.answer(actor, Command::Settle)
-    }
-
-    /// Answers a command. An equal one is made first, for the history or to be given back.
-    fn answer(&mut self, actor: u32, command: Command) -> Result<Reply, ActFault>
-        requires taken { IsDeskCommand command }
-        requires form { IsInForm command }
-        ensures reply { IfOk result (λ reply. reply
-            ≡ reply_to (terms_of F.answer self.old) [] (state_now F.answer self.old) command) }
-        ensures entry { OnOk result (self.new ≡ with_entry self.old actor command) }
-        ensures room { OnOk result (length self.old.history < self.old.limit) }
-        ensures fault { IfErr result (λ fault. IsActFault self.old command fault
-            × (self.new ≡ self.old)) }
-    {
-        if self.history.len() == self.limit {
-            return Err(ActFault::Full(command));
-        }
-        let kept = match command.copy() {
-            Ok(kept) => kept,
-            Err(Memory) => return Err(ActFault::Memory(command)),
-        };
-        match self.book.act(&mut self.maker, &self.addins, command) {
-            Ok(reply) => {
-                push_reserved(
-                    &mut self.history,
-                    Entry {
-                        actor,
-                        command: kept,
-                    },
-                );
-                Ok(reply)
-            }
-            Err(Memory) => Err(ActFault::Memory(kept)),
-        }
-    }
-
-    /// The formula cells, in the order in which the last recalculation left them.
-    pub fn chain(&self) -> Result<Vec<Cell>, Memory>
-        ensures { IfOk result (λ cells. (cell : OneCell) → is_among cells.items cell
-            ≡ is_formula (state_now F.answer self.now).book.contents cell) }
-    {
-        self.book.calc().chain()
-    }
-
-    /// The book as it is, which the sheet doesn't show before a recalculation is completed.
-    pub fn book(&self) -> &Book
-        ensures { result.now ≡ (state_now F.answer self.now).book }
-    {
-        self.book.calc().book()
-    }
-
-    /// The answered commands, the oldest first.
-    pub fn history(&self) -> &[Entry]
-        ensures { result.now ≡ self.now.history }
-    {
-        self.history.as_slice()
-    }
-
-    /// The number of the session.
-    pub fn session(&self) -> u64
-        ensures session { result ≡ self.now.session }
-        ensures positive { 0 < result }
-    {
-        self.session
-    }
-
-    /// The most entries of the history.
-    pub fn limit(&self) -> usize
-        ensures { result ≡ self.now.limit }
-    {
-        self.limit
-    }
-
-    /// The add-in functions.
-    pub fn addins(&self) -> &F {
-        &self.addins
-    }
-
-    /// Ends the host, and gives its history.
-    pub fn close(self) -> Vec<Entry>
-        ensures { result.items ≡ self.history }
-    {
-        self.history
-    }
-}
-
-/// Puts an entry at the end of a list that has room for it.
-fn push_reserved(entries: &mut Vec<Entry>, entry: Entry)
-    requires { vec_len entries.old < vec_capacity entries.old }
-    ensures items { entries.new.items ≡ entries.old.items ++ entry ∷ [] }
-    ensures room { vec_capacity entries.old ≤ vec_capacity entries.new }
-{
-    let _ = entries.push(entry);
 }

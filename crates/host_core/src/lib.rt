@@ -1,20 +1,8 @@
-//! The host as one machine: it answers commands, keeps their history, and recalculates.
+//! A stand-in for the host: it opens, and its desk answers every command with want of memory.
 #![tactic(auto)]
 
 mod desks;
-mod edits;
 mod hosts;
-mod listeners;
-mod pulls;
-#[cfg(test)]
-mod random_tests;
-mod round_books;
-mod rounds;
-#[cfg(test)]
-mod samples;
-mod servers;
-#[cfg(test)]
-mod tests;
 
 pub use cell_values::Memory;
 pub use desks::PlainDesk;

@@ -1,6 +1,7 @@
 -- A topic is connected.
-use Rattle.std.proofs.Common.{◌≡◌, ◌≤◌, ◌+◌, ℕ, Bool, true, false, cond, List, [], ◌∷◌, ◌++◌, ◌⊎◌, inl, inr, Option, None, Some, refl, ap, sym, subst, ◌∙◌, append-nil, arith, rules}
-use Rattle.std.specs.Prelude.{◌&&◌, All, filter, find, is_some, nat_eq, not, unwrap_or}
+use Rattle.std.proofs.Common.{◌≡◌, ◌≤◌, ◌+◌, ℕ, Bool, true, false, cond, ◌||◌, List, [], ◌∷◌, ◌++◌, ◌⊎◌, inl, inr, Option, None, Some, refl, ap, sym, subst, ◌∙◌, append-nil, arith, rules}
+use Rattle.std.specs.Prelude.{◌&&◌, All, IsOk, OnOk, Result, Ok, Err, filter, find, is_some, nat_eq, not, unwrap_or}
+use Rattle.std.specs.List.{list_any}
 use Rattle.std.specs.Map.{lookup}
 use Rattle.std.specs.Option.{option_and_then, option_map, option_map_or, option_or}
 use Rattle.std.specs.Str.{bytes_eq}
@@ -8,7 +9,8 @@ use Rattle.std.proofs.lemmas.Bool.{eqb-true}
 use Rattle.std.proofs.lemmas.List.Elements.{All-push, All-same, filter-append}
 use Rattle.std.proofs.lemmas.List.Folds.{find-append}
 use Rattle.cell_refs.specs.declared.grid.Cell.{Cell}
-use Rattle.cell_refs.specs.Cell.{is_among}
+use Rattle.cell_refs.specs.Cell.{is_among, same_cell}
+use Rattle.cell_refs.proofs.PublicLaws.{same_cells}
 use Rattle.cell_values.specs.declared.errors.ErrorKind.TheVariants as errors
 use Rattle.cell_values.specs.declared.topics.Topic.{Topic}
 use Rattle.cell_values.specs.declared.values.Value.{Value}
@@ -26,6 +28,16 @@ use Rattle.rtd_topics.proofs.TableFacts.{all-found, found-passes, turned}
 use Rattle.rtd_topics.proofs.Views.{current-kept}
 use Rattle.topic_table.specs.Table.{ConnectedTopic, KeepsReaders, Readings, TableState, has_read, has_reader, id_of, topic_at}
 
+-- what holds of an Ok holds where it is one
+pub on-ok : {X Y P : Type 0} (r : Result X Y) → IsOk r → OnOk r P → P
+on-ok (Ok x) is p = p
+on-ok (Err y) is p = absurd (cc is)
+
+-- a list in which no cell stands is empty
+pub no-cells : (cells : List Cell) → ((c : Cell) → is_among cells c ≡ false) → cells ≡ []
+no-cells [] none = refl
+no-cells (x ∷ cells) none = absurd (cc (sym (none x) ∙ ap (λ b. b || list_any (same_cell x) cells) (same_cells.refl x)))
+
 -- what leads to something that isn't so isn't so
 pub not-so : (b c : Bool) → (b ≡ true → c ≡ true) → c ≡ false → b ≡ false
 not-so true c h e = absurd (cc (h refl, e))
@@ -41,6 +53,17 @@ next-absent topics greatest within = at (topic_at topics (greatest + 1)) refl
         let less = all-found (λ (x : ConnectedTopic). (1 ≤ x.id) × (x.id ≤ greatest)) (λ (x : ConnectedTopic). nat_eq (greatest + 1) x.id) topics t within is in
         let same : greatest + 1 ≡ t.id = eqb-true (greatest + 1) t.id (found-passes (λ (x : ConnectedTopic). nat_eq (greatest + 1) x.id) topics t is) in
         absurd (omega (arith, less.1, same))
+
+-- the last topic is there
+pub last-there : (topics : List ConnectedTopic) (t : ConnectedTopic) (id : ℕ) → id ≡ t.id → is_some (topic_at (topics ++ t ∷ []) id) ≡ true
+last-there topics t id is = ap is_some (find-append (λ (x : ConnectedTopic). nat_eq id x.id) topics (t ∷ [])) ∙ step (topic_at topics id) ∙ ap (λ b. b) refl
+  where
+    same : nat_eq id t.id ≡ true
+    same = ap (nat_eq id) (sym is) ∙ search (rules)
+
+    step : (o : Option ConnectedTopic) → is_some (option_or o (cond (nat_eq id t.id) (Some t) None)) ≡ true
+    step None = ap (λ b. is_some (cond b (Some t) None)) same
+    step (Some x) = refl
 
 -- which topic is under an id, after one came
 pub came-which : (topics : List ConnectedTopic) (t x : ConnectedTopic) (q : ℕ) → topic_at (topics ++ t ∷ []) q ≡ Some x

@@ -10,6 +10,24 @@ use Rattle.cell_values.specs.declared.values.Value.{Value}
 use Rattle.rtd_topics.specs.Parts.{differs}
 use Rattle.topic_table.specs.Table.{ConnectedTopic, has_other_value}
 
+or_comm : (a b : Bool) → (a || b) ≡ (b || a)
+or_comm true true = refl
+or_comm true false = refl
+or_comm false true = refl
+or_comm false false = refl
+
+-- one more, noted before the others
+pub noted-more : {P : Type 0} (p : P → Bool) (ks : List P) (i : ℕ) (x : P) (b b' : Bool) → i < length ks → x ≡ get_or ks i x
+    → b' ≡ (p x || b) → b ≡ list_any p (take i ks) → b' ≡ list_any p (take (i + 1) ks)
+noted-more p ks i x b b' below item one others =
+    one ∙ or_comm (p x) b ∙ ap (λ c. c || p x) others ∙ ap (λ k. list_any p (take i ks) || p k) item ∙ sym (list_any_more p ks i x below)
+
+-- one more, noted behind the others
+pub noted-behind : {P : Type 0} (p : P → Bool) (ks : List P) (i : ℕ) (x : P) (b b' : Bool) → i < length ks → x ≡ get_or ks i x
+    → b' ≡ (b || p x) → b ≡ list_any p (take i ks) → b' ≡ list_any p (take (i + 1) ks)
+noted-behind p ks i x b b' below item one others =
+    one ∙ ap (λ c. c || p x) others ∙ ap (λ k. list_any p (take i ks) || p k) item ∙ sym (list_any_more p ks i x below)
+
 -- one id more, by whether it is the one that is asked for
 one_id : (e l d old : Bool) (d' : Bool) → (e ≡ true → d' ≡ d) → ((d' && e) || ((l && d) || old)) ≡ (((l || e) && d) || old)
 one_id true true true old d' same = ap (λ b. (b && true) || true) (same refl)

@@ -47,6 +47,11 @@ published-after {S} state ks ks' n strings value publishes known topic =
     (λ here out. out.0 topic.strings ∙ ap (λ b. cond (b && same_strings strings topic.strings) (Some value) ((view_of state k).published topic.strings)) (sym here))
     (λ other same. same.0.0 topic.strings ∙ ap (λ b. cond (b && same_strings strings topic.strings) (Some value) ((view_of state k).published topic.strings)) (sym other)))
 
+-- what was at the opening stays where a server published
+pub opening-after : {S : Type 0} (state : S → ServerState) (n : List ℕ) (strings : Strings) (value : Value) (m : List ℕ) (k k' : ServerParts S)
+    → PublishesServer state n strings value m k k' → (s : Strings) → (view_of state k').opening s ≡ (view_of state k).opening s
+opening-after state n strings value m k k' r s = (link-publishes state n strings value m k k' r).opening s
+
 -- a server that shows the same keeps its topics
 pub link-shows : {S : Type 0} (state : S → ServerState) (k k' : ServerParts S) → ShowsSame state k k' → KeepsLink (view_of state k) (view_of state k')
 link-shows state k k' r = link-kept (view_of state k) (view_of state k') r.1

@@ -140,6 +140,10 @@ id-absent topics topic e = at (find (λ (y : ConnectedTopic). same_topic topic y
     at None is e = is
     at (Some t) is e = absurd (cc e)
 
+-- where one is found it has its id
+pub id-of : (topics : List ConnectedTopic) (topic : Topic) (t : ConnectedTopic) → find (λ (y : ConnectedTopic). same_topic topic y.topic) topics ≡ Some t → id_of topics topic ≡ Some t.id
+id-of topics topic t e = ap (option_map (λ (y : ConnectedTopic). y.id)) e
+
 -- a topic that is under an id is found as itself
 pub find-at : (topics : List ConnectedTopic) → StandOnce topics → (topic : Topic) (q : ℕ) (t : ConnectedTopic) → topic_at topics q ≡ Some t → same_topic topic t.topic ≡ true
     → find (λ (y : ConnectedTopic). same_topic topic y.topic) topics ≡ Some t

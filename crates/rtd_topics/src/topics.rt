@@ -334,6 +334,26 @@ impl<S: RtdServer + Drop> RtdTopics<S> {
         self.is_running = true;
     }
 
+    /// What a cell has read in the recalculation that runs is forgotten. It takes no memory.
+    pub fn forget(&mut self, cell: Cell)
+        requires { RunsRound (rtd_of S.state self.old) }
+        ensures servers { (rtd_of S.state self.new).servers ≡ (rtd_of S.state self.old).servers }
+        ensures published { SamePublished (rtd_of S.state self.old) (rtd_of S.state self.new) }
+        ensures throttle { (rtd_of S.state self.new).throttle
+            ≡ (rtd_of S.state self.old).throttle }
+        ensures taken { (rtd_of S.state self.new).taken ≡ (rtd_of S.state self.old).taken }
+        ensures opening { (rtd_of S.state self.new).opening ≡ (rtd_of S.state self.old).opening }
+        ensures readers { (topic : OneTopic) (q : OneCell)
+            → (rtd_of S.state self.new).readers topic q
+            ≡ (rtd_of S.state self.old).readers topic q }
+        ensures reading { (topic : OneTopic) (q : OneCell)
+            → (rtd_of S.state self.new).reading topic q
+            ≡ ((rtd_of S.state self.old).reading topic q && not (is_among (cell ∷ []) q)) }
+        ensures round { (rtd_of S.state self.new).round ≡ (rtd_of S.state self.old).round }
+    {
+        self.table.start_round(&[cell]);
+    }
+
     /// The recalculation that runs is completed: what it read is taken, and the other topics are disconnected. It takes
     /// no memory.
     pub fn complete_round(&mut self)

@@ -1,2 +1,14 @@
 -- What lines say.
-mod Scripts
+mod Texts
+mod StringLists
+mod JoinedStrings
+mod Visible
+mod Parts
+mod Cuts
+mod Words
+mod FormulaTexts
+mod Lengths
+mod SaidAgain
+mod LinesAgain
+mod SaidForms
+mod SaidLines

@@ -1,142 +1,136 @@
 //! Reads the lines of a script.
 
-ghost use Rattle.std.specs.Prelude.{◌≡◌, ◌≢◌, Some, None, Err, IfOk};
-ghost use Rattle.std.specs.Prelude.{option_map};
-ghost use Rattle.formula_parse.specs.Parsing.{formula_of};
-ghost use Rattle.session_script.specs.Script.{cell_of, content_of, set_said, word_said, words_said, line_said};
+ghost use Rattle.std.specs.Prelude.{◌≡◌, ◌⊎◌, Err, IfOk, IfErr, IfSome, is_some};
+ghost use Rattle.std.specs.Char.{is_ascii_control};
+ghost use Rattle.std.specs.List.{list_any};
+ghost use Rattle.std.specs.Str.{is_utf8};
+ghost use Rattle.session_script.specs.Script.{IsParsedInForm, arguments_said, bare_said, line_said, words_said};
 
-use super::constants::{read_constant, read_text};
+use super::arguments::{cut, has_space};
+use super::calls::{read_register, read_return};
+use super::cells::{read_clear, read_set};
+use super::faults::BadLine;
+use super::laws::what_is_read_has_a_line;
 use super::limits::MAX_LINE;
-use cell_refs::{Cell, read_ref};
-use formula_parse::{ParseFault, parse};
+use super::parsed::Parsed;
+use super::rounds::{read_begin, read_calc, read_print};
+use super::servers::{
+    read_events, read_listen, read_notify, read_publish, read_pull, read_server, read_throttle,
+};
+use super::verbs::{Verb, read_verb};
 use std::alloc::Global;
 use std::str;
-use workbook::{BeginKind, Command, Content, Form};
-
-/// What a line says.
-#[derive(Drop)]
-pub enum Parsed {
-    /// A line without bytes, which has no reply.
-    Empty,
-    One(Command),
-    /// `calc`: a begin of this kind, then a settle.
-    Calc(BeginKind),
-}
-
-/// Why a line was not read.
-#[derive(Clone, Copy, Debug, PartialEq, Eq)]
-pub enum BadLine {
-    Memory,
-    /// It is not of the forms that are read so far.
-    Later,
-}
+use workbook::{BeginKind, Command, Form};
 
 /// Reads a line without its end.
 pub fn read_line(alloc: Global, line: &[u8]) -> Result<Parsed, BadLine>
-    ensures said { IfOk result (λ said. line_said line.now ≡ Some said) }
-    ensures later { result ≡ Err BadLine.Later → line_said line.now ≡ None }
+    ensures said { IfOk result (λ said. line_said line.now ≡ Ok said) }
+    ensures fault { IfErr result (λ fault. (fault ≡ BadLine.Memory)
+        ⊎ (line_said line.now ≡ Err fault)) }
+
+    // A command that is read is in form.
+    ensures in_form { IfOk result IsParsedInForm }
+{
+    what_is_read_has_a_line();
+    read_whole(alloc, line)
+}
+
+/// Reads a line.
+#[tactic(auto, unfolding(crate::specs::Script::line_said))]
+fn read_whole(alloc: Global, line: &[u8]) -> Result<Parsed, BadLine>
+    ensures said { IfOk result (λ said. line_said line.now ≡ Ok said) }
+    ensures fault { IfErr result (λ fault. (fault ≡ BadLine.Memory)
+        ⊎ (line_said line.now ≡ Err fault)) }
 {
     if line.len() > MAX_LINE {
-        return Err(BadLine::Later);
+        return Err(BadLine::Long);
+    }
+    let Some(text) = text_of(line) else {
+        return Err(BadLine::NotUtf8);
+    };
+    if has_control(line) {
+        return Err(BadLine::Control);
     }
     if line.is_empty() {
         return Ok(Parsed::Empty);
     }
+    read_words(alloc, text)
+}
+
+/// The text that a line is, if it is UTF-8.
+fn text_of(line: &[u8]) -> Option<&str>
+    ensures text { IfSome result (λ text. text.now ≡ line.now) }
+    ensures utf8 { is_some result ≡ is_utf8 line.now }
+{
     match str::from_utf8(line) {
-        Ok(text) => read_words(alloc, text),
-        Err(_) => Err(BadLine::Later),
+        Ok(text) => Some(text),
+        Err(_) => None,
     }
+}
+
+/// Whether a control character stands in a line.
+fn has_control(line: &[u8]) -> bool
+    ensures { result ≡ list_any is_ascii_control line.now }
+{
+    line.iter().any(|byte| byte.is_ascii_control())
 }
 
 /// Reads the words of a line.
+#[tactic(auto, unfolding(crate::specs::Script::words_said))]
 fn read_words(alloc: Global, line: &str) -> Result<Parsed, BadLine>
-    ensures said { IfOk result (λ said. words_said line.now ≡ Some said) }
-    ensures later { result ≡ Err BadLine.Later → words_said line.now ≡ None }
+    ensures said { IfOk result (λ said. words_said line.now ≡ Ok said) }
+    ensures fault { IfErr result (λ fault. (fault ≡ BadLine.Memory)
+        ⊎ (words_said line.now ≡ Err fault)) }
 {
-    match line.split_once(' ') {
-        None => read_word(line),
-        Some((word, rest)) => {
-            if word == "set" {
-                read_set(alloc, rest)
-            } else {
-                Err(BadLine::Later)
-            }
-        }
-    }
-}
-
-/// Reads a line of one word.
-fn read_word(word: &str) -> Result<Parsed, BadLine>
-    ensures said { IfOk result (λ said. word_said word.now ≡ Some said) }
-    ensures later { result ≡ Err BadLine.Later → word_said word.now ≡ None }
-{
-    if word == "calc" {
-        return Ok(Parsed::Calc(BeginKind::Dirty));
-    }
-    if word == "print" {
-        return Ok(Parsed::One(Command::Print(Form::Lines)));
-    }
-    Err(BadLine::Later)
-}
-
-/// Reads what stands behind `set` and its space.
-fn read_set(alloc: Global, text: &str) -> Result<Parsed, BadLine>
-    ensures said { IfOk result (λ said. set_said text.now ≡ Some said) }
-    ensures later { result ≡ Err BadLine.Later → set_said text.now ≡ None }
-{
-    let Some((name, content)) = text.split_once(' ') else {
-        return Err(BadLine::Later);
-    };
-    let Some(cell) = read_cell(name.as_bytes()) else {
-        return Err(BadLine::Later);
-    };
-    let content = read_content(alloc, content)?;
-    Ok(Parsed::One(Command::Set { cell, content }))
-}
-
-/// The cell that a text names.
-fn read_cell(text: &[u8]) -> Option<Cell>
-    ensures { result ≡ cell_of text.now }
-{
-    let (reference, length) = read_ref(text)?;
-    if length == text.len() {
-        Some(reference.at(1))
+    let (word, rest) = cut(line);
+    let verb = read_verb(word)?;
+    if has_space(line) {
+        read_arguments(alloc, verb, rest)
     } else {
-        None
+        read_bare(verb)
     }
 }
 
-/// The content that a text says.
-fn read_content(alloc: Global, text: &str) -> Result<Content, BadLine>
-    ensures said { IfOk result (λ content. content_of text.now ≡ Some content) }
-    ensures later { result ≡ Err BadLine.Later → content_of text.now ≡ None }
+/// Reads a line that has nothing behind its first word.
+fn read_bare(verb: Verb) -> Result<Parsed, BadLine>
+    ensures { result ≡ bare_said verb }
 {
-    match text.as_bytes() {
-        [] => Err(BadLine::Later),
-        [b'=', ..] => read_formula(alloc, text),
-        [b'\'', bytes @ ..] => read_text(alloc, bytes),
-        [_, ..] => read_constant(alloc, text),
+    match verb {
+        Verb::Set | Verb::Clear => Err(BadLine::Ref),
+        Verb::Register | Verb::Server | Verb::Publish | Verb::Notify => Err(BadLine::Name),
+        Verb::Listen | Verb::Events => Err(BadLine::Name),
+        Verb::Throttle | Verb::Pull => Err(BadLine::Value),
+        Verb::Return => Err(BadLine::Handle),
+        Verb::Begin => Ok(Parsed::One(Command::Begin(BeginKind::Dirty))),
+        Verb::Settle => Ok(Parsed::One(Command::Settle)),
+        Verb::Cancel => Ok(Parsed::One(Command::Cancel)),
+        Verb::Calc => Ok(Parsed::Calc(BeginKind::Dirty)),
+        Verb::Print => Ok(Parsed::One(Command::Print(Form::Lines))),
     }
 }
 
-/// The formula that a text says.
-fn read_formula(alloc: Global, text: &str) -> Result<Content, BadLine>
-    ensures said { IfOk result (λ content. option_map Content.Formula (formula_of text.now)
-        ≡ Some content) }
-    ensures later { result ≡ Err BadLine.Later → formula_of text.now ≡ None }
+/// Reads what stands behind the first word and its space.
+#[tactic(auto, unfolding(crate::specs::Script::arguments_said))]
+fn read_arguments(alloc: Global, verb: Verb, text: &str) -> Result<Parsed, BadLine>
+    ensures said { IfOk result (λ said. arguments_said verb text.now ≡ Ok said) }
+    ensures fault { IfErr result (λ fault. (fault ≡ BadLine.Memory)
+        ⊎ (arguments_said verb text.now ≡ Err fault)) }
 {
-    match parse(alloc, text) {
-        Ok(tree) => Ok(Content::Formula(tree)),
-        Err(fault) => Err(bad_formula(fault)),
-    }
-}
-
-/// Why a line is bad whose formula has this fault.
-fn bad_formula(fault: ParseFault) -> BadLine
-    ensures { result ≡ BadLine.Later → fault ≢ ParseFault.Memory }
-{
-    match fault {
-        ParseFault::Memory => BadLine::Memory,
-        _ => BadLine::Later,
+    match verb {
+        Verb::Set => read_set(alloc, text),
+        Verb::Clear => read_clear(text),
+        Verb::Register => read_register(alloc, text),
+        Verb::Server => read_server(alloc, text),
+        Verb::Publish => read_publish(alloc, text),
+        Verb::Notify => read_notify(alloc, text),
+        Verb::Throttle => read_throttle(text),
+        Verb::Pull => read_pull(text),
+        Verb::Begin => read_begin(text),
+        Verb::Settle | Verb::Cancel => Err(BadLine::Value),
+        Verb::Calc => read_calc(text),
+        Verb::Return => read_return(alloc, text),
+        Verb::Print => read_print(text),
+        Verb::Listen => read_listen(alloc, text),
+        Verb::Events => read_events(alloc, text),
     }
 }

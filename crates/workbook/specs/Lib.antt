@@ -2,6 +2,7 @@
 pub mod Agreement
 pub mod Book
 pub mod Circular
+pub mod Desk
 pub mod Evaluation
 pub mod History
 pub mod InForm

@@ -4,6 +4,7 @@
 mod books;
 mod commands;
 mod contents;
+mod desks;
 mod history;
 mod history_laws;
 mod laws;
@@ -16,6 +17,7 @@ mod tests;
 pub use books::{Book, CELL_LIMIT, FORMULA_LIMIT, SetFault};
 pub use commands::{BeginKind, Command, Form, Moment};
 pub use contents::Content;
+pub use desks::{Desk, DeskFault};
 pub use history::Entry;
 pub use history_laws::{
     a_flag_stays_up_until_it_is_pulled, a_handle_writes_at_most_once,

@@ -3,4 +3,4 @@ use Rattle.calc_book.proofs.tests.assert_steps.Given as goal
 
 -- the book is at rest
 abbrev pub invariant-loop-after : goal.invariant-loop-after
-invariant-loop-after g l = Stands l.desk.book l.desk.feed.value l.desk.feed.readings.items
+invariant-loop-after g l = Stands l.desk.book l.desk.log l.desk.left l.desk.feed.value l.desk.feed.readings.items

@@ -1,19 +1,16 @@
-use Rattle.std.proofs.Common.{ap, sym, subst, ◌∙◌}
-use Rattle.addin_types.specs.Samples.{sample_answer}
-use Rattle.cell_chain.specs.CellOrder.{entries_among}
-use Rattle.calc_round.specs.Rounds.{IsWorking, topic_setting}
-use Rattle.calc_round.proofs.Samples.{unevaluated-reads, unevaluated-working}
+use Rattle.std.proofs.Common.{length, ap, ◌∙◌, arith}
+use Rattle.async_handles.specs.OpenCalls.{OpenCalls}
+use Rattle.calc_round.proofs.Samples.{begun}
 use Rattle.calc_round.proofs.tests.begin.Goals as goal
 
-pub returns-clause-working : goal.returns-clause-working
-returns-clause-working c snapshot =
-    let setting = topic_setting sample_answer snapshot in
-    let book = c.args.sheet.now.book.contents in
-    let entries = c.args.sheet.now.chain.entries in
-    subst (λ chain. IsWorking setting book c.args.sheet.now.store chain.entries chain.due) (sym c.rewind.ensures.due)
-    (unevaluated-working setting book c.args.sheet.now.store entries c.requires (entries_among entries c.deref.result.now)
-    (ap (entries_among entries) (c.deref.ensures.value ∙ c.in_ok-cells.ensures.entries)))
-
-pub returns-clause-reads : goal.returns-clause-reads
-returns-clause-reads c source unread =
-    unevaluated-reads sample_answer source c.args.sheet.now.book.contents c.args.sheet.now.store c.args.sheet.now.chain.entries c.requires unread
+pub returns : goal.returns
+returns g c =
+    let list = c.in_ok-waiting.waiting in
+    let none = ap (λ (h : OpenCalls). h.calls) (c.in_ok-reserve.ensures.kept) ∙ ap (λ (h : OpenCalls). h.calls) c.new-calls.ensures in
+    let count = ap length none in
+    let items = list.ok.0 in
+    let fits = list.ok.1 in
+    let spare = c.in_ok-reserve.ensures.spare in
+    let asked = c.len.ensures in
+    begun c.args.sheet.now.book c.args.log.now c.args.sheet.now.store c.args.sheet.now.chain (record { waiting = list; calls = c.reserve.new.self }) (g.T.TopicSource.state c.args.topics.now) c.requires.start c.requires.unread
+    c.in_ok-waiting.ensures.entries none (omega (arith, count, items, fits), omega (arith, spare, asked, items))

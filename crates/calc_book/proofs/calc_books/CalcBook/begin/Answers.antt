@@ -1,11 +1,12 @@
-use Rattle.std.proofs.Common.{refl}
-use Rattle.calc_book.proofs.BeginningStates.{HasCaughtUp, all-begun, all-forgotten, all-reads, dirty-begun, dirty-forgotten, dirty-reads, entries-present, entries-readers, err-all, err-anyway, err-leads, if-both, if-on, ok-both, ok-leads, own-clean, refused-rests, still-rests}
+use Rattle.std.proofs.Common.{◌∙◌, refl}
+use Rattle.calc_book.proofs.BeginningStates.{HasCaughtUp, all-begun, all-forgotten, all-reads, dirty-begun, dirty-forgotten, dirty-reads, entries-present, entries-readers, err-all, err-anyway, err-leads, if-five, if-four, ok-leads, ok-four, ok-five, own-clean, refused-rests, still-rests}
 use Rattle.calc_book.proofs.calc_books.CalcBook.begin.Goals as goal
 
 pub returns-in_err-catch_up-clause-refused : goal.returns-in_err-catch_up-clause-refused
-returns-in_err-catch_up-clause-refused c answer s rest =
-    err-anyway _ _ (still-rests answer c.args.self.now s rest c.args.self.now.changed c.catch_up.new.table c.catch_up.new.marks c.args.self.now.chain c.catch_up.new.store refl refl
-    c.catch_up.ensures.again c.catch_up.ensures.shown (c.catch_up.ensures.clean (own-clean answer c.args.self.now s rest)))
+returns-in_err-catch_up-clause-refused c s rest =
+    err-anyway _ _ (still-rests c.args.self.now s rest c.args.self.now.changed c.catch_up.new.table c.catch_up.new.marks c.args.self.now.chain c.catch_up.new.store c.args.self.now.work
+    refl refl (record { calls = refl; session = refl })
+    c.catch_up.ensures.again c.catch_up.ensures.shown (c.catch_up.ensures.clean (own-clean c.args.self.now s rest)))
 
 pub make_all_due-requires : goal.make_all_due-requires
 make_all_due-requires c =
@@ -23,13 +24,15 @@ make_all_due-requires c =
       touched = e.touched;
     } in
     record {
-      readers = entries-readers r.0 c.args.self.now r.1 r.2 _ _ _ up;
-      present = entries-present r.0 c.args.self.now r.1 r.2 _ _ _ up;
+      readers = entries-readers c.args.self.now r.0 r.1 _ _ _ up;
+      present = entries-present c.args.self.now r.0 r.1 _ _ _ up;
+      calls = r.1.calls;
     }
 
 pub returns-in-Dirty : goal.returns-in-Dirty
 returns-in-Dirty c =
     let e = c.in_ok-catch_up.ensures in
+    let d = c.make_due.ensures in
     let up : HasCaughtUp c.args.self.now.book.contents c.args.self.now.changed.keys c.catch_up.new.table c.catch_up.new.marks c.args.self.now.store c.catch_up.new.store = record {
       shown = e.shown;
       others = e.others;
@@ -42,20 +45,27 @@ returns-in-Dirty c =
       touched = e.touched;
     } in
     record {
-      ok = λ answer s rest. ok-leads _ _ _ (dirty-begun answer c.args.self.now s rest _ _ _ up c.args.kind c.in-Dirty.is c.make_due.new.chain) c.make_due.ensures.ok;
-      reads = λ answer s rest. ok-leads _ _ _ (dirty-reads answer c.args.self.now s rest _ _ _ up c.args.kind c.in-Dirty.is c.make_due.new.chain) c.make_due.ensures.ok;
-      forgotten = λ answer s rest. if-on _ _ _ _
-          (λ rewound both are. dirty-forgotten answer c.args.self.now s rest _ _ _ up c.args.kind c.in-Dirty.is c.make_due.new.chain rewound both.items are)
-          c.make_due.ensures.ok c.make_due.ensures.cells;
-      refused = λ answer s rest. err-leads _ _ _
-          (λ is. still-rests answer c.args.self.now s rest c.args.self.now.changed c.catch_up.new.table c.catch_up.new.marks c.make_due.new.chain c.catch_up.new.store refl is
-          c.catch_up.ensures.again c.catch_up.ensures.shown (c.catch_up.ensures.clean (own-clean answer c.args.self.now s rest)))
-          c.make_due.ensures.refused;
+      ok = λ s rest. ok-four _ _ _ _ _
+          (λ due room idle. dirty-begun c.args.self.now s rest _ _ _ up c.args.kind c.in-Dirty.is c.make_due.new.chain c.make_due.new.work due room idle d.kept)
+          d.due d.room d.chain;
+      calls = λ s rest. ok-leads _ _ _ (λ _. d.kept.calls ∙ rest.calls) d.room;
+      reads = λ s rest. ok-four _ _ _ _ _
+          (λ due room idle. dirty-reads c.args.self.now s rest _ _ _ up c.args.kind c.in-Dirty.is c.make_due.new.chain c.make_due.new.work due room idle d.kept)
+          d.due d.room d.chain;
+      forgotten = λ s rest. if-four _ _ _ _ _ _
+          (λ due room idle both are. dirty-forgotten c.args.self.now s rest _ _ _ up c.args.kind c.in-Dirty.is c.make_due.new.chain c.make_due.new.work due room idle d.kept both.items are)
+          d.due d.room d.chain d.cells;
+      refused = λ s rest. err-leads _ _ _
+          (λ is. still-rests c.args.self.now s rest c.args.self.now.changed c.catch_up.new.table c.catch_up.new.marks c.make_due.new.chain c.catch_up.new.store c.make_due.new.work refl is d.kept
+          c.catch_up.ensures.again c.catch_up.ensures.shown (c.catch_up.ensures.clean (own-clean c.args.self.now s rest)))
+          d.same_chain;
     }
 
 pub returns-in-All : goal.returns-in-All
 returns-in-All c =
     let e = c.in_ok-catch_up.ensures in
+    let d = c.make_all_due.ensures in
+    let n = c.make_all_due.new in
     let up : HasCaughtUp c.args.self.now.book.contents c.args.self.now.changed.keys c.catch_up.new.table c.catch_up.new.marks c.args.self.now.store c.catch_up.new.store = record {
       shown = e.shown;
       others = e.others;
@@ -68,19 +78,17 @@ returns-in-All c =
       touched = e.touched;
     } in
     record {
-      ok = λ answer s rest. ok-both _ _ _ _
-          (λ all rewound. all-begun answer c.args.self.now s rest _ _ _ up c.make_all_due.new.changed c.make_all_due.new.marks c.make_all_due.new.chain c.make_all_due.new.store
-          all c.make_all_due.ensures.shown rewound c.args.kind c.in-All.is)
-          c.make_all_due.ensures.ok c.make_all_due.ensures.due;
-      reads = λ answer s rest. ok-both _ _ _ _
-          (λ all rewound. all-reads answer c.args.self.now s rest _ _ _ up c.make_all_due.new.changed c.make_all_due.new.marks c.make_all_due.new.chain c.make_all_due.new.store
-          all c.make_all_due.ensures.shown rewound c.args.kind c.in-All.is)
-          c.make_all_due.ensures.ok c.make_all_due.ensures.due;
-      forgotten = λ answer s rest. if-both _ _ _ _ _
-          (λ all rewound both are. all-forgotten answer c.args.self.now s rest _ _ _ up c.make_all_due.new.changed c.make_all_due.new.marks c.make_all_due.new.chain c.make_all_due.new.store
-          all c.make_all_due.ensures.shown rewound c.args.kind c.in-All.is both.items are)
-          c.make_all_due.ensures.ok c.make_all_due.ensures.due c.make_all_due.ensures.cells;
-      refused = λ answer s rest. err-all _ _ _ _ _
-          (λ same is present. refused-rests answer c.args.self.now s rest _ _ _ up c.make_all_due.new.changed c.make_all_due.new.marks c.make_all_due.new.chain c.make_all_due.new.store same is present c.make_all_due.ensures.shown)
-          c.make_all_due.ensures.same_changed c.make_all_due.ensures.same_chain c.make_all_due.ensures.same_present;
+      ok = λ s rest. ok-five _ _ _ _ _ _
+          (λ all due room idle. all-begun c.args.self.now s rest _ _ _ up n.changed n.marks n.chain n.store n.work all d.shown due room idle d.kept c.args.kind c.in-All.is)
+          d.ok d.due d.room d.chain;
+      calls = λ s rest. ok-leads _ _ _ (λ _. d.kept.calls ∙ rest.calls) d.room;
+      reads = λ s rest. ok-five _ _ _ _ _ _
+          (λ all due room idle. all-reads c.args.self.now s rest _ _ _ up n.changed n.marks n.chain n.store n.work all d.shown due room idle d.kept c.args.kind c.in-All.is)
+          d.ok d.due d.room d.chain;
+      forgotten = λ s rest. if-five _ _ _ _ _ _ _
+          (λ all due room idle both are. all-forgotten c.args.self.now s rest _ _ _ up n.changed n.marks n.chain n.store n.work all d.shown due room idle d.kept c.args.kind c.in-All.is both.items are)
+          d.ok d.due d.room d.chain d.cells;
+      refused = λ s rest. err-all _ _ _ _ _
+          (λ same is present. refused-rests c.args.self.now s rest _ _ _ up n.changed n.marks n.chain n.store n.work same is d.kept present d.shown)
+          d.same_changed d.same_chain d.same_present;
     }

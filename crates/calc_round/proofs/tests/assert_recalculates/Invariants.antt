@@ -1,6 +1,0 @@
-use Rattle.calc_round.specs.Samples.{IsUnevaluated}
-use Rattle.calc_round.proofs.tests.assert_recalculates.Given as goal
-
--- nothing is evaluated yet
-abbrev pub invariant-loop-row : goal.invariant-loop-row
-invariant-loop-row g l = IsUnevaluated l.sheet.book.contents l.sheet.store l.sheet.chain.entries
