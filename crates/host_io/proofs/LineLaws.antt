@@ -4,7 +4,7 @@ use Rattle.std.proofs.Math.Seq.{take-add}
 use Rattle.std.specs.List.{onto_first, position_or_len, position}
 use Rattle.std.proofs.lemmas.Bool.{cases_eq, cases_Bool, cases_lt, lt-ltb, le-ltb, eq-eqb, ne_eqb, cond-true, cond-false, and_right}
 use Rattle.std.proofs.lemmas.List.{take_rest, take_all, append-nil, take-append-drop, drop-drop, length-drop}
-use Rattle.host_io.specs.Lines.{is_paired_return, onto_whole, lines_of, whole_lines, LacksFeed, IsWhole, without_return, IsFirstFeed}
+use Rattle.host_io.specs.Lines.{has_feed, is_paired_return, onto_whole, lines_of, whole_lines, LacksFeed, IsWhole, without_return, IsFirstFeed}
 
 -- no LF stands before the first
 lacks_before : (bs : List ℕ) → LacksFeed (take (position_or_len (λ b. eqb b 10) bs) bs)
@@ -216,3 +216,8 @@ IsWhole-append [] ys h k = k
 IsWhole-append (b ∷ []) [] h k = h
 IsWhole-append (b ∷ []) (c ∷ ys) h k = k
 IsWhole-append (b ∷ c ∷ bs) ys h k = IsWhole-append (c ∷ bs) ys h k
+
+-- where no byte is LF, no whole line stands
+pub has_feed-lacks : (bytes : List ℕ) → LacksFeed bytes → has_feed bytes ≡ false
+has_feed-lacks [] lacks = refl
+has_feed-lacks (b ∷ bs) lacks = rw (ne_eqb b 10 lacks.0) (has_feed-lacks bs lacks.1)

@@ -1,11 +1,15 @@
 -- The cut of bytes into lines. A line ends with LF (10) or with CR LF (13, 10), which is no part of it.
 use Rattle.std.specs.Prelude.{◌≡◌, ◌≢◌, ℕ, Bool, false, ◌&&◌, ◌==◌, ◌+◌, ◌<◌, if◌then◌else◌, List, [], ◌∷◌, length, take, drop}
-use Rattle.std.specs.List.{onto_first}
+use Rattle.std.specs.List.{list_any, onto_first}
 
 -- LF is the first byte
 abbrev pub begins_with_feed : List ℕ → Bool
 begins_with_feed [] = false
 begins_with_feed (b ∷ bs) = b == 10
+
+-- whether a byte is LF, so that a whole line stands there
+abbrev pub has_feed : List ℕ → Bool
+has_feed bytes = list_any (λ byte. byte == 10) bytes
 
 -- the byte is a CR that ends a line together with the LF behind it
 abbrev pub is_paired_return : ℕ → List ℕ → Bool

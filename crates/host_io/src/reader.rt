@@ -1,8 +1,8 @@
-ghost use Rattle.std.specs.Prelude.{◌≡◌, ◌+◌, ◌<◌, ◌≤◌, ◌⊎◌, ℕ, true, false, List, [], IfOk, IfErr, IfSome, OnOk, OnErr, MatchResult, MatchOption, length, take, drop, ◌==◌, position};
+ghost use Rattle.std.specs.Prelude.{◌≡◌, ◌+◌, ◌<◌, ◌≤◌, ◌⊎◌, ℕ, true, false, List, [], IfOk, IfErr, IfSome, IsOk, OnOk, OnErr, MatchResult, MatchOption, length, take, drop, ◌==◌, position};
 ghost use Rattle.std.specs.Io.KnownBytes.{IsAtEnd};
 ghost use Rattle.host_io.specs.declared.limits.TheConstants.{MAX_INPUT};
 ghost use Rattle.host_io.specs.Count.{Rose};
-ghost use Rattle.host_io.specs.Lines.{LacksFeed, IsFirstFeed, without_return};
+ghost use Rattle.host_io.specs.Lines.{LacksFeed, IsFirstFeed, has_feed, without_return};
 ghost use Rattle.host_io.specs.LineReader.{backlog_of, Moves, Leaves, Spells, IsFirstLeft, Advances};
 ghost use Rattle.host_io.specs.LineBuffer.{IsAnswered, IsLastAnswered};
 
@@ -72,6 +72,13 @@ impl Lines {
         }
     }
 
+    /// Whether a whole line is at hand: the next call of `next` reads nothing.
+    pub fn has_line(&self) -> bool
+        ensures { result ≡ has_feed self.now.pending }
+    {
+        self.buffer.pending().iter().any(|byte| *byte == b'\n')
+    }
+
     /// The next line, without its LF or CR LF. A last line without LF counts where it has a byte.
     /// After a fault each call answers that fault.
     pub fn next<I: Source>(&mut self, src: &mut I) -> Result<Line, LineFault>
@@ -101,6 +108,11 @@ impl Lines {
         ensures steady { (result ≡ Err LineFault.Read) ⊎ (I.faults src.new ≡ I.faults src.old) }
         ensures limit { self.old.fault ≡ None → result ≡ Err LineFault.Limit
             → IfSome (I.remaining src.old) (λ left. MAX_INPUT < self.old.taken + length left) }
+
+        // Where a whole line is at hand, the source isn't read, and but for want of memory the line is given.
+        ensures unread { has_feed self.old.pending ≡ true → src.new ≡ src.old }
+        ensures at_hand { self.old.fault ≡ None → has_feed self.old.pending ≡ true
+            → IfErr result (λ fault. fault ≡ LineFault.Memory) }
 
         // The end and a fault stay.
         ensures done { self.old.fault ≡ None → self.old.ended ≡ true
@@ -144,6 +156,9 @@ fn next_line<I: Source>(
     ensures steady { (result ≡ Err LineFault.Read) ⊎ (I.faults src.new ≡ I.faults src.old) }
     ensures read { result ≡ Err LineFault.Read → Rose (I.faults src.old) (I.faults src.new) }
     ensures count { I.faults src.old ≤ I.faults src.new }
+    ensures unread { has_feed buffer.old.pending ≡ true → src.new ≡ src.old }
+    ensures at_hand { has_feed buffer.old.pending ≡ true
+        → IfErr result (λ fault. fault ≡ LineFault.Memory) }
 {
     match find_feed(buffer, src)? {
         Some(place) => give_line(alloc, buffer, place),
@@ -155,7 +170,7 @@ fn next_line<I: Source>(
     }
 }
 
-/// Takes pieces until a line feed is pending, and answers its place; None at the end of the source.
+/// The place of the first line feed, for which pieces are taken where none is pending; None at the end of the source.
 fn find_feed<I: Source>(buffer: &mut Buffer, src: &mut I) -> Result<Option<usize>, LineFault>
     ensures moved { OnOk result (Moves buffer.old buffer.new (I.remaining src.old)
         (I.remaining src.new) []) }
@@ -169,15 +184,38 @@ fn find_feed<I: Source>(buffer: &mut Buffer, src: &mut I) -> Result<Option<usize
     ensures steady { (result ≡ Err LineFault.Read) ⊎ (I.faults src.new ≡ I.faults src.old) }
     ensures read { result ≡ Err LineFault.Read → Rose (I.faults src.old) (I.faults src.new) }
     ensures count { I.faults src.old ≤ I.faults src.new }
+    ensures unread { has_feed buffer.old.pending ≡ true → src.new ≡ src.old }
+    ensures found { has_feed buffer.old.pending ≡ true → IsOk result }
 {
-    let mut searched = 0;
+    match feed_from(buffer.pending(), 0) {
+        Some(place) => Ok(Some(place)),
+        None => seek_feed(buffer, src),
+    }
+}
+
+/// Takes pieces until a line feed is pending, and answers its place; None at the end of the source.
+fn seek_feed<I: Source>(buffer: &mut Buffer, src: &mut I) -> Result<Option<usize>, LineFault>
+    requires { LacksFeed buffer.old.pending }
+    ensures moved { OnOk result (Moves buffer.old buffer.new (I.remaining src.old)
+        (I.remaining src.new) []) }
+    ensures within { buffer.new.taken ≤ MAX_INPUT }
+    ensures fewer { length buffer.new.pending ≤ buffer.new.taken }
+    ensures place { IfOk result (λ place. MatchOption place (LacksFeed buffer.new.pending)
+        (IsFirstFeed buffer.new.pending)) }
+    ensures end { result ≡ Ok None → IsAtEnd (I.remaining src.new) }
+    ensures left { IfErr result (λ fault. Leaves fault buffer.old buffer.new (I.remaining src.old)
+        (I.remaining src.new)) }
+    ensures steady { (result ≡ Err LineFault.Read) ⊎ (I.faults src.new ≡ I.faults src.old) }
+    ensures read { result ≡ Err LineFault.Read → Rose (I.faults src.old) (I.faults src.new) }
+    ensures count { I.faults src.old ≤ I.faults src.new }
+{
     loop {
-        if let Some(place) = feed_from(buffer.pending(), searched) {
-            return Ok(Some(place));
-        }
-        searched = buffer.pending().len();
+        let searched = buffer.pending().len();
         if !buffer.refill(src)? {
             return Ok(None);
+        }
+        if let Some(place) = feed_from(buffer.pending(), searched) {
+            return Ok(Some(place));
         }
     }
 }

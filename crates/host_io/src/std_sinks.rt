@@ -6,8 +6,8 @@ use super::failures::Failed;
 use super::sinks::Sink;
 use std::io::Write;
 
-/// A stream as a sink. It tells what its stream tells of its bytes: the streams of the system tell
-/// nothing.
+/// A stream as a sink, which holds nothing back: a write is one of the stream. It tells what its
+/// stream tells of its bytes: the streams of the system tell nothing.
 #[derive(Drop)]
 pub struct StdSink<W> {
     writer: W,

@@ -61,6 +61,20 @@ fn lines_however_cut(rt: HostRuntime) -> Result<(), Fail> {
 }
 
 #[test]
+fn a_line_at_hand_is_given_without_a_read(rt: HostRuntime) -> Result<(), Fail> {
+    let bytes = Vec::from_slice(rt.alloc(), b"a\nb\nc")?;
+    let mut src = MemorySource::new(bytes, 100, vec![in rt.alloc(); 2]?);
+    let mut lines = Lines::new(rt.alloc());
+    assert!(rt; !lines.has_line());
+    assert!(rt; lines.next(&mut src).is_ok());
+    assert!(rt; lines.has_line());
+    assert!(rt; lines.next(&mut src).is_ok());
+    assert!(rt; !lines.has_line());
+    assert!(rt; matches!(lines.next(&mut src), Err(LineFault::Read)));
+    Ok(())
+}
+
+#[test]
 fn a_source_that_fails_ends_the_lines(rt: HostRuntime) -> Result<(), Fail> {
     for (fail, want) in [
         (1, "read"),
@@ -161,10 +175,20 @@ fn a_stream_fails_and_goes_on(rt: HostRuntime) -> Result<(), Fail> {
     Ok(())
 }
 
-/// A stream that fills each buffer, takes all, and knows whether a flush was asked for.
+/// A stream that fills each buffer, takes all, and knows how many bytes it has and whether a flush was asked for.
 #[derive(Drop)]
 struct Open {
+    taken: usize,
     flushed: bool,
+}
+
+impl Open {
+    fn new() -> Open {
+        Open {
+            taken: 0,
+            flushed: false,
+        }
+    }
 }
 
 impl Read for Open {
@@ -175,6 +199,7 @@ impl Read for Open {
 
 impl Write for Open {
     fn write(&mut self, buf: &[u8]) -> io::Result<usize> {
+        self.taken = self.taken.saturating_add(buf.len());
         self.flushed = false;
         Ok(buf.len())
     }
@@ -187,17 +212,27 @@ impl Write for Open {
 
 #[test]
 fn a_stream_without_faults_is_read_written_and_flushed(rt: HostRuntime) -> Result<(), Fail> {
-    let mut src = StdSource::new(Open { flushed: false });
+    let mut src = StdSource::new(Open::new());
     let mut one = [0u8; 1];
     assert_eq!(rt; src.read(&mut one), Ok(1));
     let mut piece = [0u8; 8192];
     assert_eq!(rt; src.read(&mut piece), Ok(8192));
     let bytes = [b'x'; 10_000];
-    let mut stream = Open { flushed: true };
+    let mut stream = Open::new();
     let mut sink = StdSink::new(&mut stream);
     assert_eq!(rt; sink.write(&bytes), Ok(10_000));
     assert_eq!(rt; sink.finish(), Ok(()));
     assert!(rt; stream.flushed);
+    Ok(())
+}
+
+#[test]
+fn a_stream_has_what_was_written_before_it_is_flushed(rt: HostRuntime) -> Result<(), Fail> {
+    let mut stream = Open::new();
+    let mut sink = StdSink::new(&mut stream);
+    assert_eq!(rt; sink.write(b"ok\n"), Ok(3));
+    assert_eq!(rt; stream.taken, 3);
+    assert!(rt; !stream.flushed);
     Ok(())
 }
 

@@ -3,51 +3,26 @@ use Rattle.std.proofs.Common.{◌≡◌, ◌⊎◌, inl, inr, ℕ, ◌<◌, ◌�
 use Rattle.std.proofs.lemmas.Bool.{false≢true}
 use Rattle.std.specs.Io.KnownBytes.{Keeps}
 use Rattle.workbook.specs.State.{first_state}
-use Rattle.host_core.specs.HostState.{HostState}
 use Rattle.rtdhost.specs.declared.program.Status.{Status}
 use Rattle.rtdhost.specs.declared.program.Status.TheVariants as statuses
 use Rattle.host_io.specs.declared.run_faults.RunFault.{RunFault}
 use Rattle.host_io.specs.declared.run_faults.RunFault.TheVariants as run_faults
 use Rattle.host_io.specs.Lines.{lines_of, whole_lines}
-use Rattle.rtdhost.specs.Output.{commands_in, output_of, program_terms, replies_from, replies_within}
+use Rattle.desk_run.specs.Output.{commands_in, replies_from, replies_within}
+use Rattle.desk_run.specs.Run.{IsCaused}
+use Rattle.rtdhost.specs.Output.{output_of, program_terms}
 use Rattle.rtdhost.specs.Words.{is_run, usage_line}
 use Rattle.rtdhost.specs.Endings.{HasEnded, IsFaultCounted, status_of}
-use Rattle.host_io.specs.LineReader.{LineReader}
-use Rattle.rtdhost.specs.Session.{HasAnswered, HasStopped, IsCaused}
+use Rattle.rtdhost.specs.Session.{HasStopped}
 use Rattle.host_io.specs.Count.{Rose}
 use Rattle.host_io.specs.Sink.{Appends, AppendsPrefix}
-use Rattle.host_io.proofs.PublicLaws.{HasGiven-start}
-use Rattle.host_io.proofs.PublicLaws.{Appends-kept, Appends-none, AppendsPrefix-all, AppendsPrefix-kept}
+use Rattle.host_io.proofs.PublicLaws.{Appends-kept, AppendsPrefix-all, AppendsPrefix-kept}
 
-keeps_itself : (bytes : Option (List ℕ)) → Keeps bytes bytes
-keeps_itself None = tt
-keeps_itself (Some bytes) = refl
-
--- the desk of a session that has read nothing
-abbrev first_desk : HostState
-first_desk = record { session = 1; limit = program_terms.limit; history = [] }
-
--- a session that has read nothing has answered all of nothing
-pub started : (input : List ℕ) (desk : HostState) (reading : LineReader) (left written : Option (List ℕ)) → reading ≡ record { pending = []; taken = 0; ended = false; fault = None } → desk ≡ record { session = 1; limit = program_terms.limit; history = [] } → left ≡ Some input → HasAnswered input written desk reading left written
-started input desk reading left written new opened told =
-    subst (λ d. HasAnswered input written d reading left written) (sym opened)
-    (subst (λ r. HasAnswered input written first_desk r left written) (sym new)
-    (record {
-      lines = [];
-      rest = input;
-      told = told;
-      given = HasGiven-start input;
-      ended = λ e. absurd (false≢true e);
-      stands = record { terms = refl; within = omega arith; state = refl };
-      count = refl;
-      wrote = Appends-none written written (keeps_itself written);
-    }))
-
-run_output : (words : List (List ℕ)) (input : List ℕ) → is_run words ≡ true → output_of words input ≡ replies_from first_state (lines_of input)
-run_output words input run = ap (λ b. cond b (replies_from first_state (lines_of input)) usage_line) run
+run_output : (words : List (List ℕ)) (input : List ℕ) → is_run words ≡ true → output_of words input ≡ replies_from program_terms first_state (lines_of input)
+run_output words input run = ap (λ b. cond b (replies_from program_terms first_state (lines_of input)) usage_line) run
 
 usage_output : (words : List (List ℕ)) (input : List ℕ) → is_run words ≡ false → output_of words input ≡ usage_line
-usage_output words input other = ap (λ b. cond b (replies_from first_state (lines_of input)) usage_line) other
+usage_output words input other = ap (λ b. cond b (replies_from program_terms first_state (lines_of input)) usage_line) other
 
 ended_by : (stop : RunFault) (words : List (List ℕ)) (all : List ℕ) (before left written : Option (List ℕ)) → is_run words ≡ true → HasStopped stop all before left written → HasEnded (status_of stop) words all before left written
 ended_by run_faults.Read words all before left written run stopped = (run, stopped)
@@ -76,7 +51,7 @@ ok_read status words all before left written ended is = (as_status status status
 pub ok_within : (status : Status) (words : List (List ℕ)) (all : List ℕ) (before left written : Option (List ℕ)) → HasEnded status words all before left written → status ≡ statuses.Ok → length all ≤ 67108864
 ok_within status words all before left written ended is = (as_status status statuses.Ok words all before left written ended is).1.within
 
-pub read_answered : (status : Status) (words : List (List ℕ)) (all : List ℕ) (before left written written' : Option (List ℕ)) → HasEnded status words all before left written → status ≡ statuses.ReadFault → Keeps written written' → (n : ℕ) × (left ≡ Some (drop n all)) × Appends before (replies_from first_state (whole_lines (take n all))) written'
+pub read_answered : (status : Status) (words : List (List ℕ)) (all : List ℕ) (before left written written' : Option (List ℕ)) → HasEnded status words all before left written → status ≡ statuses.ReadFault → Keeps written written' → (n : ℕ) × (left ≡ Some (drop n all)) × Appends before (replies_from program_terms first_state (whole_lines (take n all))) written'
 read_answered status words all before left written written' ended is kept =
     let stopped = (as_status status statuses.ReadFault words all before left written ended is).1.1 in
     (stopped.0, stopped.1, Appends-kept before written written' _ stopped.2 kept)
@@ -84,7 +59,7 @@ read_answered status words all before left written written' ended is kept =
 pub limit_passed : (status : Status) (words : List (List ℕ)) (all : List ℕ) (before left written : Option (List ℕ)) → HasEnded status words all before left written → status ≡ statuses.InputLimit → 67108864 < length all
 limit_passed status words all before left written ended is = (as_status status statuses.InputLimit words all before left written ended is).1.1.0
 
-pub limit_answered : (status : Status) (words : List (List ℕ)) (all : List ℕ) (before left written written' : Option (List ℕ)) → HasEnded status words all before left written → status ≡ statuses.InputLimit → Keeps written written' → Appends before (replies_from first_state (whole_lines (take 67108864 all))) written'
+pub limit_answered : (status : Status) (words : List (List ℕ)) (all : List ℕ) (before left written written' : Option (List ℕ)) → HasEnded status words all before left written → status ≡ statuses.InputLimit → Keeps written written' → Appends before (replies_from program_terms first_state (whole_lines (take 67108864 all))) written'
 limit_answered status words all before left written written' ended is kept =
     Appends-kept before written written' _ (as_status status statuses.InputLimit words all before left written ended is).1.1.1 kept
 
@@ -94,12 +69,12 @@ ok_fits status words all before left written ended is = (as_status status status
 pub full_passed : (status : Status) (words : List (List ℕ)) (all : List ℕ) (before left written : Option (List ℕ)) → HasEnded status words all before left written → status ≡ statuses.SessionFull → program_terms.limit < commands_in (lines_of all)
 full_passed status words all before left written ended is = (as_status status statuses.SessionFull words all before left written ended is).1.1.0
 
-pub full_answered : (status : Status) (words : List (List ℕ)) (all : List ℕ) (before left written written' : Option (List ℕ)) → HasEnded status words all before left written → status ≡ statuses.SessionFull → Keeps written written' → Appends before (replies_within program_terms.limit first_state (lines_of all)) written'
+pub full_answered : (status : Status) (words : List (List ℕ)) (all : List ℕ) (before left written written' : Option (List ℕ)) → HasEnded status words all before left written → status ≡ statuses.SessionFull → Keeps written written' → Appends before (replies_within program_terms program_terms.limit first_state (lines_of all)) written'
 full_answered status words all before left written written' ended is kept =
     Appends-kept before written written' _ (as_status status statuses.SessionFull words all before left written ended is).1.1.1 kept
 
 -- a prefix of the output, with every status
-prefix_by : (words : List (List ℕ)) (all : List ℕ) (before written : Option (List ℕ)) → is_run words ≡ true → AppendsPrefix before (replies_from first_state (lines_of all)) written → AppendsPrefix before (output_of words all) written
+prefix_by : (words : List (List ℕ)) (all : List ℕ) (before written : Option (List ℕ)) → is_run words ≡ true → AppendsPrefix before (replies_from program_terms first_state (lines_of all)) written → AppendsPrefix before (output_of words all) written
 prefix_by words all before written run prefix = subst (λ bs. AppendsPrefix before bs written) (sym (run_output words all run)) prefix
 
 ended_prefix : (status : Status) (words : List (List ℕ)) (all : List ℕ) (before left written : Option (List ℕ)) → HasEnded status words all before left written → AppendsPrefix before (output_of words all) written

@@ -3,6 +3,5 @@ pub mod Output
 pub mod Program
 pub mod Words
 -- What the crate's own functions keep.
-pub mod Desk
 pub mod Endings
 pub mod Session

@@ -1,22 +1,30 @@
 //! The program: its words, the script that it reads, and the status that it ends with.
 
 ghost use Rattle.std.specs.Process.{exit_status};
-ghost use Rattle.std.specs.Prelude.{◌≡◌, ◌≢◌, ◌⊎◌, ◌<◌, ◌≤◌, ℕ, List, [], Some, IfErr, OnOk, OnErr, length, take, drop, true, false};
+ghost use Rattle.std.specs.Prelude.{◌≡◌, ◌≢◌, ◌⊎◌, ◌<◌, ◌≤◌, ℕ, List, [], Some, IfErr, IfOk, OnOk, OnErr, length, take, drop, true, false};
 ghost use Rattle.workbook.specs.State.{first_state};
 ghost use Rattle.host_io.specs.declared.limits.TheConstants.{MAX_INPUT};
 ghost use Rattle.host_io.specs.Count.{Rose};
 ghost use Rattle.host_io.specs.Lines.{lines_of, whole_lines};
-ghost use Rattle.rtdhost.specs.Output.{commands_in, output_of, program_terms, replies_from, replies_within};
+ghost use Rattle.desk_run.specs.Output.{commands_in, replies_from, replies_within};
+ghost use Rattle.desk_run.specs.Run.{IsCaused};
+ghost use Rattle.rtdhost.specs.Output.{output_of, program_terms};
 ghost use Rattle.rtdhost.specs.Endings.{HasEnded, IsFaultCounted, status_of};
 ghost use Rattle.rtdhost.specs.Program.{exit_code};
-ghost use Rattle.rtdhost.specs.Session.{HasFinished, HasStopped, IsCaused};
+ghost use Rattle.rtdhost.specs.Session.{HasFinished, HasStopped};
 ghost use Rattle.rtdhost.specs.Words.{is_run, texts, usage_line};
 ghost use Rattle.host_io.specs.Sink.{Appends, AppendsPrefix};
 
-use super::session::Session;
+use addin_types::SampleAddIns;
+use desk_run::run_desk;
+use host_core::{Host, PlainDesk};
 use host_io::{RunFault, Sink, Source, put};
+use rtd_server::FeedMaker;
 use std::alloc::Global;
 use std::process::ExitCode;
+
+/// The most commands that are answered.
+pub const MAX_COMMANDS: usize = 1_000_000;
 
 /// How the program ends.
 #[derive(Clone, Copy, Debug, PartialEq, Eq)]
@@ -101,13 +109,13 @@ pub fn rtd_host_plain<I: Source, O: Sink>(
     ensures read_answered { (input : List ℕ) → I.remaining src.old ≡ Some input
         → result ≡ Status.ReadFault
         → (n : ℕ) × (I.remaining src.new ≡ Some (drop n input))
-        × Appends (O.written out.old) (replies_from first_state (whole_lines (take n input)))
+        × Appends (O.written out.old) (replies_from program_terms first_state (whole_lines (take n input)))
         (O.written out.new) }
     ensures limit { (input : List ℕ) → I.remaining src.old ≡ Some input → result ≡ Status.InputLimit
         → MAX_INPUT < length input }
     ensures limit_answered { (input : List ℕ) → I.remaining src.old ≡ Some input
         → result ≡ Status.InputLimit
-        → Appends (O.written out.old) (replies_from first_state
+        → Appends (O.written out.old) (replies_from program_terms first_state
         (whole_lines (take MAX_INPUT input))) (O.written out.new) }
     ensures within { (input : List ℕ) → I.remaining src.old ≡ Some input → result ≡ Status.Ok
         → length input ≤ MAX_INPUT }
@@ -119,7 +127,7 @@ pub fn rtd_host_plain<I: Source, O: Sink>(
     ensures full_answered { (input : List ℕ) → I.remaining src.old ≡ Some input
         → result ≡ Status.SessionFull
         → Appends (O.written out.old)
-        (replies_within program_terms.limit first_state (lines_of input)) (O.written out.new) }
+        (replies_within program_terms program_terms.limit first_state (lines_of input)) (O.written out.new) }
     ensures within_commands { (input : List ℕ) → I.remaining src.old ≡ Some input
         → result ≡ Status.Ok → commands_in (lines_of input) ≤ program_terms.limit }
 
@@ -161,13 +169,13 @@ fn respond<I: Source, O: Sink>(alloc: Global, words: &[String], src: &mut I, out
         return refuse(out);
     }
     match run(alloc, src, out) {
-        Ok(()) => Status::Ok,
+        Ok(_) => Status::Ok,
         Err(stop) => status_at(stop),
     }
 }
 
-/// Reads a script to its end.
-fn run<I: Source, O: Sink>(alloc: Global, src: &mut I, out: &mut O) -> Result<(), RunFault>
+/// Reads a script to its end. Answers how many commands there were.
+fn run<I: Source, O: Sink>(alloc: Global, src: &mut I, out: &mut O) -> Result<u64, RunFault>
     ensures finished { (input : List ℕ) → I.remaining src.old ≡ Some input
         → OnOk result (HasFinished input (O.written out.old) (I.remaining src.new)
         (O.written out.new)) }
@@ -180,8 +188,18 @@ fn run<I: Source, O: Sink>(alloc: Global, src: &mut I, out: &mut O) -> Result<()
         (O.faults out.old) (O.faults out.new)) }
     ensures writes { O.faults out.old ≤ O.faults out.new }
 {
-    match Session::open(alloc) {
-        Ok(mut session) => session.read_all(src, out),
+    let mut desk = open_desk(alloc)?;
+    run_desk(alloc, &mut desk, src, out)
+}
+
+/// A desk at a host without a book.
+fn open_desk(alloc: Global) -> Result<PlainDesk<FeedMaker, SampleAddIns>, RunFault>
+    ensures desk { IfOk result (λ desk. desk
+        ≡ record { session = 1; limit = program_terms.limit; history = [] }) }
+    ensures memory { IfErr result (λ stop. stop ≡ RunFault.Memory) }
+{
+    match Host::open(alloc, 1, MAX_COMMANDS, FeedMaker, SampleAddIns) {
+        Ok(host) => Ok(PlainDesk::new(host)),
         Err(_) => Err(RunFault::Memory),
     }
 }
