@@ -25,15 +25,6 @@ replies_text-append replies others = flat_map-append reply_text replies others
 behind : (held first second held' : List ℕ) (mid : List ℕ) → mid ≡ held ++ first → held' ≡ mid ++ second → held' ≡ held ++ (first ++ second)
 behind held first second held' mid a b = b ∙ ap (λ (bs : List ℕ). bs ++ second) a ∙ append_assoc held first second
 
--- no command
-pub acts-none : (answer : Answers) (desk : DeskState) (held : List ℕ) → HasActed answer [] desk desk held held
-acts-none answer desk held = record {
-  replies = [];
-  are = are-none answer desk;
-  acted = after-none desk;
-  text = sym (append-nil held);
-}
-
 -- one command, whose reply's lines are held
 pub acts-one : (answer : Answers) (command : Command) (reply : Reply) (desk desk' : DeskState) (held held' : List ℕ) → length desk.history < desk.limit → (IsTrue desk.steady → reply ≡ desk_reply answer desk command) → desk' ≡ desk_with desk command → held' ≡ held ++ reply_text reply → HasActed answer (command ∷ []) desk desk' held held'
 acts-one answer command reply desk desk' held held' room is acted text = record {

@@ -152,23 +152,3 @@ ok_begun answer start now written' (Err stop) had all =
 pub err_begun : (answer : Answers) (start now : Place) (written' : Option (List ℕ)) (read : Result ℕ RunFault) → OnOk read (IsFinished answer start now) → IfErr read (IsStopped answer start now) → AppendsPrefix now.written now.held written' → HasRunPart answer start.left start.desk now.desk start.written written'
 err_begun answer start now written' (Ok count) had stopped part = finished_part answer start now written' had part
 err_begun answer start now written' (Err stop) had stopped part = stopped_part answer start now written' stop stopped part
-
--- ---- counts of faults
-pub ok_caused : (read : Result ℕ RunFault) (reads reads' writes mid writes' : ℕ) → writes' ≡ mid → IfErr read (λ stop. IsCaused stop reads reads' writes mid) → IfErr read (λ stop. IsCaused stop reads reads' writes writes')
-ok_caused read reads reads' writes mid writes' same caused = subst (λ n. IfErr read (λ stop. IsCaused stop reads reads' writes n)) (sym same) caused
-
-rose_from : (before mid now : ℕ) → before ≤ mid → Rose mid now → Rose before now
-rose_from before mid now more rose = omega (arith, more, rose)
-
--- a write failed at the end, and no read
-reads_same : (answer : Answers) (start now : Place) (stop : RunFault) (reads reads' writes mid : ℕ) → (now.held ≡ [] → ⊥) → IsStopped answer start now stop → IsCaused stop reads reads' writes mid → reads' ≡ reads
-reads_same answer start now run_faults.Read reads reads' writes mid some had caused = absurd (some had.2)
-reads_same answer start now run_faults.Limit reads reads' writes mid some had caused = caused.0
-reads_same answer start now run_faults.Write reads reads' writes mid some had caused = caused.0
-reads_same answer start now run_faults.Memory reads reads' writes mid some had caused = caused.0
-reads_same answer start now run_faults.Full reads reads' writes mid some had caused = caused.0
-
-pub err_caused : (answer : Answers) (start now : Place) (read : Result ℕ RunFault) (reads reads' writes mid writes' : ℕ) → (now.held ≡ [] → ⊥) → IfErr read (IsStopped answer start now) → OnOk read ((reads' ≡ reads) × (mid ≡ writes)) → IfErr read (λ stop. IsCaused stop reads reads' writes mid) → writes ≤ mid → Rose mid writes' → IsCaused run_faults.Write reads reads' writes writes'
-err_caused answer start now (Ok count) reads reads' writes mid writes' some stopped steady caused more rose = (steady.0, rose_from writes mid writes' more rose)
-err_caused answer start now (Err stop) reads reads' writes mid writes' some stopped steady caused more rose =
-    (reads_same answer start now stop reads reads' writes mid some stopped caused, rose_from writes mid writes' more rose)

@@ -188,23 +188,6 @@ pub caused_by_reader : (fault : LineFault) (stop : RunFault) (reads reads' : ℕ
 caused_by_reader fault stop reads reads' is steady rose =
     subst (λ s. IsReadCaused s reads reads') (sym is) (caused_as fault reads reads' steady rose)
 
-caused_with : (stop : RunFault) (reads reads' writes writes' : ℕ) → writes' ≡ writes → IsReadCaused stop reads reads' → IsCaused stop reads reads' writes writes'
-caused_with run_faults.Read reads reads' writes writes' same caused = (caused, same)
-caused_with run_faults.Write reads reads' writes writes' same caused = absurd caused
-caused_with run_faults.Limit reads reads' writes writes' same caused = (caused, same)
-caused_with run_faults.Memory reads reads' writes writes' same caused = (caused, same)
-caused_with run_faults.Full reads reads' writes writes' same caused = (caused, same)
-
--- beside a sink without faults
-pub caused_besides : {T : Type 0} (answer : Result T RunFault) (reads reads' writes writes' : ℕ) → writes' ≡ writes → IfErr answer (λ stop. IsReadCaused stop reads reads') → IfErr answer (λ stop. IsCaused stop reads reads' writes writes')
-caused_besides (Ok more) reads reads' writes writes' same caused = tt
-caused_besides (Err stop) reads reads' writes writes' same caused = caused_with stop reads reads' writes writes' same caused
-
--- what stops a session after turns that met no fault
-pub caused_since : (stop : RunFault) (reads mid reads' writes mid' writes' : ℕ) → mid ≡ reads → mid' ≡ writes → IsCaused stop mid reads' mid' writes' → IsCaused stop reads reads' writes writes'
-caused_since stop reads mid reads' writes mid' writes' same same' caused =
-    subst (λ m. IsCaused stop m reads' writes writes') same (subst (λ m. IsCaused stop mid reads' m writes') same' caused)
-
 -- ---- a failed write
 pub unwritten_stops : (answer : Answers) (start : Place) (reading after : LineReader) (desk : DeskState) (held held' : List ℕ) (left written written' : Option (List ℕ)) (stop : RunFault) → after ≡ reading → IsBetween answer start (place reading desk held left written) → stop ≡ run_faults.Write → held' ≡ [] → AppendsPrefix written held written' → IsStopped answer start (place after desk held' left written') stop
 unwritten_stops answer start reading after desk held held' left written written' stop same had is none part =

@@ -1,4 +1,3 @@
-use Rattle.std.proofs.Common.{◌≡◌, IfErr, OnOk}
 use Rattle.desk_run.proofs.Acting.{appended_acts, appended_refuses, gave_back}
 use Rattle.desk_run.proofs.answering.act.Goals as goal
 

@@ -1,7 +1,7 @@
 use Rattle.std.proofs.Common.{[], IfErr, rules}
 use Rattle.desk_run.specs.Run.{HasRunPart}
 use Rattle.desk_run.specs.Session.{place}
-use Rattle.desk_run.proofs.Runs.{err_begun, err_caused, ok_begun, ok_finished, ok_stopped}
+use Rattle.desk_run.proofs.Runs.{err_begun, ok_begun, ok_finished, ok_stopped}
 use Rattle.desk_run.proofs.running.run_desk.Goals as goal
 
 pub returns-in_err-hand_over-clause-begun : goal.returns-in_err-hand_over-clause-begun

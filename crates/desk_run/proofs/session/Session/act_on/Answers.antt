@@ -1,4 +1,4 @@
-use Rattle.std.proofs.Common.{◌≡◌, List, ℕ, Result, Err, Some, ap, length, rules, subst, sym, ◌∙◌}
+use Rattle.std.proofs.Common.{Result, Some, ap, length, rules, subst, sym, ◌∙◌}
 use Rattle.host_io.specs.LineReader.{IsTextOf}
 use Rattle.session_script.specs.declared.faults.BadLine.{BadLine}
 use Rattle.session_script.specs.declared.parsed.Parsed.{Parsed}
@@ -7,8 +7,6 @@ use Rattle.desk_run.specs.Output.{commands_said}
 use Rattle.desk_run.specs.Session.{HasRefused, HasSaid}
 use Rattle.desk_run.proofs.Acting.{bad_left, bad_says}
 use Rattle.desk_run.proofs.LongLines.{too_long}
-use Rattle.desk_run.proofs.Readings.{read-over}
-use Rattle.desk_run.proofs.Texts.{lines_text-replies}
 use Rattle.desk_run.proofs.session.Session.act_on.Goals as goal
 
 pub returns-in_err-count-in-TooLong-clause-refused :

@@ -1,4 +1,4 @@
-use Rattle.std.proofs.Common.{[], IfErr, arith, refl, rules}
+use Rattle.std.proofs.Common.{[], arith, refl, rules}
 use Rattle.desk_run.specs.Session.{IsStopped, place}
 use Rattle.desk_run.proofs.Runs.{between-start}
 use Rattle.desk_run.proofs.session.Session.read_all.Goals as goal

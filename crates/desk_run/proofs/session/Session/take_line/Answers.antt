@@ -1,5 +1,4 @@
 use Rattle.std.proofs.Common.{◌≡◌, true, ap, refl, subst, sym, ◌∙◌, Err}
-use Rattle.desk_run.specs.Session.{has_text}
 use Rattle.desk_run.proofs.TurnAnswers.{answered_advances, answered_count, answered_next, answered_stopped, caused_by_line, caused_by_reader, faulted, goes_on, line_without_fault, not_ended}
 use Rattle.desk_run.proofs.session.Session.take_line.Goals as goal
 

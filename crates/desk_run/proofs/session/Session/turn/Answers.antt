@@ -1,4 +1,4 @@
-use Rattle.std.proofs.Common.{IfErr, rules}
+use Rattle.std.proofs.Common.{rules}
 use Rattle.desk_run.specs.Session.{IsStopped, place}
 use Rattle.desk_run.proofs.TurnAnswers.{unwritten_stops}
 use Rattle.desk_run.proofs.Turns.{between-written}
