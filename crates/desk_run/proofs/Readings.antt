@@ -26,7 +26,7 @@ first_by : (all : List ℕ) (lines : List (List ℕ)) (reading : LineReader) (re
 first_by all lines reading rest had (inl whole) end = (
   lines_of (reading.pending ++ rest),
   ap lines_of had.bytes ∙ lines_of-append had.given (reading.pending ++ rest) whole
-  ∙ ap (λ (ls : List (List ℕ)). ls ++ lines_of (reading.pending ++ rest)) had.cut,
+      ∙ ap (λ (ls : List (List ℕ)). ls ++ lines_of (reading.pending ++ rest)) had.cut,
 )
 first_by all lines reading rest had (inr ended) end =
     ([], lines_at_end all lines reading rest had (end ended).0 (end ended).1 ∙ sym (append-nil lines))

@@ -68,10 +68,10 @@ are-joined answer desk commands more replies others first second = record {
       ∙ sym (length-append commands more);
   fits = omega (arith, first.fits, second.fits, length-append commands more, length-after desk commands);
   steady = λ steady.
-  ap (λ (rest : List Reply). rest ++ others) (first.steady steady)
-  ∙ ap (λ (rest : List Reply). replies_to_all (desk_terms answer desk) (desk_state answer desk) commands ++ rest)
-  (second.steady steady ∙ ap (λ (s : State). replies_to_all (desk_terms answer desk) s more) (desk_state-after answer desk commands))
-  ∙ sym (replies-append (desk_terms answer desk) (desk_state answer desk) commands more);
+      ap (λ (rest : List Reply). rest ++ others) (first.steady steady)
+      ∙ ap (λ (rest : List Reply). replies_to_all (desk_terms answer desk) (desk_state answer desk) commands ++ rest)
+      (second.steady steady ∙ ap (λ (s : State). replies_to_all (desk_terms answer desk) s more) (desk_state-after answer desk commands))
+      ∙ sym (replies-append (desk_terms answer desk) (desk_state answer desk) commands more);
 }
 
 -- the replies to two lists of commands, one behind the other

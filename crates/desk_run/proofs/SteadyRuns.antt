@@ -34,7 +34,7 @@ first_text terms s lines more commands others split =
     let within = lines_text-replies lines first later in (
       within.0 ++ behind.0,
       ap (lines_text (lines ++ more)) replies ∙ behind.1 ∙ ap (λ (bs : List ℕ). bs ++ behind.0) within.1
-      ∙ append_assoc (lines_text lines first) within.0 behind.0,
+          ∙ append_assoc (lines_text lines first) within.0 behind.0,
     )
 
 pub begun_steady : (answer : Answers) (lines more : List (List ℕ)) (commands others : List Command) (desk desk' : DeskState) (written written' : Option (List ℕ)) → IsTrue desk.steady → commands_of lines ≡ commands ++ others → HasBegun answer lines commands desk desk' written written' → AppendsPrefix written (replies_from (desk_terms answer desk) (desk_state answer desk) (lines ++ more)) written'

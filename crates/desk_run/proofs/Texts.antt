@@ -95,7 +95,7 @@ lines_text-part lines line replies these text missing fits few cut =
     let part = part_line line these text missing few cut in (
       part.0,
       lines_text-append lines (line ∷ []) replies these fits ∙ ap (λ (bs : List ℕ). lines_text lines replies ++ bs) part.1
-      ∙ sym (append_assoc (lines_text lines replies) text part.0),
+          ∙ sym (append_assoc (lines_text lines replies) text part.0),
     )
 
 -- where a command has none, exactly the lines of the replies are written
@@ -109,17 +109,19 @@ pub lines_text-lines : (lines more : List (List ℕ)) (replies : List Reply) →
 lines_text-lines [] more replies = (lines_text more replies, refl)
 lines_text-lines (line ∷ lines) more replies =
     elim (cases_lt (length replies) (length (commands_of_line line))) [
-      | inl short ↦
-          ([], text-short line (lines ++ more) replies short ∙ sym (append-nil (replies_text replies))
-          ∙ ap (λ (bs : List ℕ). bs ++ []) (sym (text-short line lines replies short)))
+      | inl short ↦ (
+        [],
+        text-short line (lines ++ more) replies short ∙ sym (append-nil (replies_text replies))
+            ∙ ap (λ (bs : List ℕ). bs ++ []) (sym (text-short line lines replies short)),
+      )
       | inr long ↦
           let count = length (commands_of_line line) in
           let later = lines_text-lines lines more (drop count replies) in (
             later.0,
             text-whole line (lines ++ more) replies long
-            ∙ ap (λ (bs : List ℕ). said_text (line_said line) (take count replies) ++ bs) later.1
-            ∙ sym (append_assoc (said_text (line_said line) (take count replies)) (lines_text lines (drop count replies)) later.0)
-            ∙ ap (λ (bs : List ℕ). bs ++ later.0) (sym (text-whole line lines replies long)),
+                ∙ ap (λ (bs : List ℕ). said_text (line_said line) (take count replies) ++ bs) later.1
+                ∙ sym (append_assoc (said_text (line_said line) (take count replies)) (lines_text lines (drop count replies)) later.0)
+                ∙ ap (λ (bs : List ℕ). bs ++ later.0) (sym (text-whole line lines replies long)),
           )
     ]
 
@@ -154,7 +156,7 @@ lines_text-replies (line ∷ lines) replies others =
             | inl few ↦ (
               replies_text others,
               text-short line lines (replies ++ others) few ∙ replies_text-append replies others
-              ∙ ap (λ (bs : List ℕ). bs ++ replies_text others) (sym (text-short line lines replies short)),
+                  ∙ ap (λ (bs : List ℕ). bs ++ replies_text others) (sym (text-short line lines replies short)),
             )
             | inr enough ↦
                 let more = count - length replies in
@@ -162,10 +164,10 @@ lines_text-replies (line ∷ lines) replies others =
                 let later = lines_text lines (drop count (replies ++ others)) in (
                   replies_text (take more others) ++ later,
                   text-whole line lines (replies ++ others) enough
-                  ∙ ap (λ (rs : List Reply). said_text (line_said line) rs ++ later) taken
-                  ∙ ap (λ (bs : List ℕ). bs ++ later) (said_first (line_said line) replies (take more others) short)
-                  ∙ append_assoc (replies_text replies) (replies_text (take more others)) later
-                  ∙ ap (λ (bs : List ℕ). bs ++ (replies_text (take more others) ++ later)) (sym (text-short line lines replies short)),
+                      ∙ ap (λ (rs : List Reply). said_text (line_said line) rs ++ later) taken
+                      ∙ ap (λ (bs : List ℕ). bs ++ later) (said_first (line_said line) replies (take more others) short)
+                      ∙ append_assoc (replies_text replies) (replies_text (take more others)) later
+                      ∙ ap (λ (bs : List ℕ). bs ++ (replies_text (take more others) ++ later)) (sym (text-short line lines replies short)),
                 )
           ]
       | inr long ↦
@@ -173,11 +175,11 @@ lines_text-replies (line ∷ lines) replies others =
           let all : count ≤ length (replies ++ others) = omega (arith, long, lengths) in (
             here.0,
             text-whole line lines (replies ++ others) all
-            ∙ ap (λ (rs : List Reply). said_text (line_said line) rs ++ lines_text lines (drop count (replies ++ others))) (take-append-le count replies others long)
-            ∙ ap (λ (rs : List Reply). said_text (line_said line) (take count replies) ++ lines_text lines rs) (drop-append-le count replies others long)
-            ∙ ap (λ (bs : List ℕ). said_text (line_said line) (take count replies) ++ bs) here.1
-            ∙ sym (append_assoc (said_text (line_said line) (take count replies)) (lines_text lines (drop count replies)) here.0)
-            ∙ ap (λ (bs : List ℕ). bs ++ here.0) (sym (text-whole line lines replies long)),
+                ∙ ap (λ (rs : List Reply). said_text (line_said line) rs ++ lines_text lines (drop count (replies ++ others))) (take-append-le count replies others long)
+                ∙ ap (λ (rs : List Reply). said_text (line_said line) (take count replies) ++ lines_text lines rs) (drop-append-le count replies others long)
+                ∙ ap (λ (bs : List ℕ). said_text (line_said line) (take count replies) ++ bs) here.1
+                ∙ sym (append_assoc (said_text (line_said line) (take count replies)) (lines_text lines (drop count replies)) here.0)
+                ∙ ap (λ (bs : List ℕ). bs ++ here.0) (sym (text-whole line lines replies long)),
           )
     ]
   where

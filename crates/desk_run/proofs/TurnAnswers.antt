@@ -149,7 +149,7 @@ answered_count answer new desk desk' held held' line raw (Ok (Some n)) spelled s
           let done = said t.0 t.1 in (
             subst (λ k. k ≤ 2) (sym is) (few_said (line_said t.0)),
             ap (λ (d : DeskState). length d.history) done.acted ∙ length-after desk (commands_said (line_said t.0))
-            ∙ ap (λ k. length desk.history + k) (sym is),
+                ∙ ap (λ k. length desk.history + k) (sym is),
           )
       | inr none ↦ absurd (none-some n (ends none).0)
     ]

@@ -73,11 +73,7 @@ pub fn answer_fault(alloc: Global, fault: BadLine, out: &mut Vec<u8>) -> Result<
 }
 
 /// Acts on what a line says.
-fn answer_parsed<D: Desk>(
-    desk: &mut D,
-    said: Parsed,
-    out: &mut Vec<u8>,
-) -> Result<u64, Refusal>
+fn answer_parsed<D: Desk>(desk: &mut D, said: Parsed, out: &mut Vec<u8>) -> Result<u64, Refusal>
     requires form { IsParsedInForm said }
     ensures acted { OnOk result (HasActed D.answer (commands_of_parsed said) (D.state desk.old)
         (D.state desk.new) out.old.items out.new.items) }
