@@ -24,7 +24,7 @@ finished all left written written' desk' had = record {
   fits = subst (λ ls. commands_in ls ≤ 1000000) had.read.0 (omega (arith, had.answered.are.fits));
   read = had.read.1;
   wrote = subst (λ (ls : List (List ℕ)). Appends written (replies_from program_terms first_state ls) written') had.read.0
-      (answered_steady sample_answer had.lines first_desk desk' written written' tt had.answered);
+      (answered_steady sample_answer had.lines first_desk desk' written written' refl had.answered);
 }
 
 pub ok_finished : (all : List ℕ) (told left written written' : Option (List ℕ)) (desk desk' : DeskState) (result : Result ℕ RunFault) → told ≡ Some all → desk ≡ first_desk → OnOk result (HasRun sample_answer told left desk desk' written written') → OnOk result (HasFinished all written left written')
@@ -40,23 +40,23 @@ whole all left written written' desk' run_faults.Read had = (
   had.read.0,
   had.read.1,
   subst (λ (ls : List (List ℕ)). Appends written (replies_from program_terms first_state ls) written') had.read.2
-      (answered_steady sample_answer had.lines first_desk desk' written written' tt had.answered),
+      (answered_steady sample_answer had.lines first_desk desk' written written' refl had.answered),
 )
 whole all left written written' desk' run_faults.Limit had = (
   had.read.0,
   subst (λ (ls : List (List ℕ)). Appends written (replies_from program_terms first_state ls) written') had.read.1
-      (answered_steady sample_answer had.lines first_desk desk' written written' tt had.answered),
+      (answered_steady sample_answer had.lines first_desk desk' written written' refl had.answered),
 )
 whole all left written written' desk' run_faults.Write had = tt
 whole all left written written' desk' run_faults.Memory had = tt
-whole all left written written' desk' run_faults.Full had = full_steady sample_answer all first_desk desk' written written' tt had
+whole all left written written' desk' run_faults.Full had = full_steady sample_answer all first_desk desk' written written' refl had
 
 part : (all : List ℕ) (written written' : Option (List ℕ)) (desk' : DeskState) → HasRunPart sample_answer (Some all) first_desk desk' written written' → AppendsPrefix written (replies_from program_terms first_state (lines_of all)) written'
 part all written written' desk' had =
     subst (λ (ls : List (List ℕ)). AppendsPrefix written (replies_from program_terms first_state ls) written') (sym had.read.1)
-    (begun_steady sample_answer had.lines had.read.0 had.commands had.others first_desk desk' written written' tt had.split had.begun)
+    (begun_steady sample_answer had.lines had.read.0 had.commands had.others first_desk desk' written written' refl had.split had.begun)
 
-pub stopped : (all : List ℕ) (told left written written' : Option (List ℕ)) (desk desk' : DeskState) (stop : RunFault) → told ≡ Some all → desk ≡ first_desk → HasRunTo sample_answer told left desk desk' written written' stop → HasRunPart sample_answer told desk desk' written written' → HasStopped stop all written left written'
+stopped : (all : List ℕ) (told left written written' : Option (List ℕ)) (desk desk' : DeskState) (stop : RunFault) → told ≡ Some all → desk ≡ first_desk → HasRunTo sample_answer told left desk desk' written written' stop → HasRunPart sample_answer told desk desk' written written' → HasStopped stop all written left written'
 stopped all told left written written' desk desk' stop is new to begun = (
   part all written written' desk'
       (subst (λ (d : DeskState). HasRunPart sample_answer (Some all) d desk' written written') new
@@ -65,3 +65,7 @@ stopped all told left written written' desk desk' stop is new to begun = (
       (subst (λ (d : DeskState). HasRunTo sample_answer (Some all) left d desk' written written' stop) new
       (subst (λ (t : Option (List ℕ)). HasRunTo sample_answer t left desk desk' written written' stop) is to)),
 )
+
+pub err_stopped : (all : List ℕ) (told left written written' : Option (List ℕ)) (desk desk' : DeskState) (result : Result ℕ RunFault) → told ≡ Some all → desk ≡ first_desk → IfErr result (HasRunTo sample_answer told left desk desk' written written') → IfErr result (λ stop. HasRunPart sample_answer told desk desk' written written') → IfErr result (λ stop. HasStopped stop all written left written')
+err_stopped all told left written written' desk desk' (Ok count) is new to begun = tt
+err_stopped all told left written written' desk desk' (Err stop) is new to begun = stopped all told left written written' desk desk' stop is new to begun

@@ -109,7 +109,7 @@ fn a_reply_comes_before_more_input_is_read(rt: HostRuntime) -> Result<(), Fail> 
     let words = vec![in rt.alloc(); String::from_str(rt.alloc(), "run")?]?;
     let status = rtd_host_plain(rt.alloc(), words.as_slice(), &mut src, &mut out);
     assert_eq!(rt; status, Status::Ok);
-    // A1=2, A3=4, A4=5, end
-    assert_eq!(rt; replied.load(Ordering::SeqCst), 81);
+    // A1=2, end: the sheet of the last recalculation
+    assert_eq!(rt; replied.load(Ordering::SeqCst), 71);
     Ok(())
 }

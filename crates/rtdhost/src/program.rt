@@ -193,7 +193,7 @@ fn run<I: Source, O: Sink>(alloc: Global, src: &mut I, out: &mut O) -> Result<u6
 }
 
 /// A desk at a host without a book.
-fn open_desk(alloc: Global) -> Result<PlainDesk<FeedMaker, SampleAddIns>, RunFault>
+pub fn open_desk(alloc: Global) -> Result<PlainDesk<FeedMaker, SampleAddIns>, RunFault>
     ensures desk { IfOk result (λ desk. desk
         ≡ record { session = 1; limit = program_terms.limit; history = [] }) }
     ensures memory { IfErr result (λ stop. stop ≡ RunFault.Memory) }

@@ -1,6 +1,7 @@
 ghost use Rattle.std.specs.Prelude.{◌<◌};
 
-use super::program::{Status, rtd_host_plain};
+use super::program::{Status, open_desk, rtd_host_plain};
+use desk_run::run_desk;
 use host_io::{MemorySink, MemorySource};
 use std::alloc::Global;
 use std::process::Abort;
@@ -60,6 +61,22 @@ fn scripts_however_cut(rt: HostRuntime) -> Result<(), Fail> {
         for piece in [1, 7, 1000] {
             plays(&rt, rt.alloc(), script, piece, want)?;
         }
+    }
+    Ok(())
+}
+
+#[test]
+fn a_session_tells_how_many_commands_there_were(rt: HostRuntime) -> Result<(), Fail> {
+    let script = b"set A1 2\nset A2 =A1+3\n\ncalc\nprnt\nprint\n";
+    let bytes = Vec::from_slice(rt.alloc(), script)?;
+    let mut src = MemorySource::new(bytes, 7, Vec::new(rt.alloc()));
+    let mut out = MemorySink::new(rt.alloc(), 100, Vec::new(rt.alloc()));
+    match open_desk(rt.alloc()) {
+        Ok(mut desk) => {
+            let count = run_desk(rt.alloc(), &mut desk, &mut src, &mut out);
+            assert_eq!(rt; count, Ok(5));
+        }
+        Err(_) => assert!(rt; false),
     }
     Ok(())
 }
@@ -256,7 +273,8 @@ fn a_sink_that_fails_at_its_first_call(rt: HostRuntime) -> Result<(), Fail> {
 fn a_sink_that_fails_at_finish_alone(rt: HostRuntime) -> Result<(), Fail> {
     let bytes = Vec::from_slice(rt.alloc(), b"set A1 2\nprint\n")?;
     let mut src = MemorySource::new(bytes, 1000, Vec::new(rt.alloc()));
-    let mut out = MemorySink::new(rt.alloc(), 1000, vec![in rt.alloc(); 3]?);
+    // Both replies are one write.
+    let mut out = MemorySink::new(rt.alloc(), 1000, vec![in rt.alloc(); 2]?);
     assert_eq!(rt; run(rt.alloc(), &mut src, &mut out)?, Status::WriteFault);
     assert_eq!(rt; out.written(), b"ok\nend\n".as_slice());
     Ok(())
