@@ -1,6 +1,5 @@
 -- What a desk does with the commands of a line.
 use Rattle.std.proofs.Common.{◌≡◌, ◌<◌, ℕ, IsTrue, List, [], ◌∷◌, ◌++◌, length, Result, Ok, Err, IfErr, OnOk, OnErr, refl, sym, ap, subst, ◌∙◌, append_assoc, append-nil, arith}
-use Rattle.std.specs.List.{flat_map}
 use Rattle.std.proofs.lemmas.Grind.{flat_map-append}
 use Rattle.session_script.specs.declared.faults.BadLine.{BadLine}
 use Rattle.session_script.specs.Faults.{fault_text}
@@ -13,7 +12,7 @@ use Rattle.workbook.specs.Desk.{DeskState, IsDeskFault, desk_reply, desk_with}
 use Rattle.desk_run.specs.declared.answering.Refusal.{Refusal}
 use Rattle.desk_run.specs.declared.answering.Refusal.TheVariants as refusals
 use Rattle.desk_run.specs.Output.{replies_text}
-use Rattle.desk_run.specs.Run.{Answers, AreReplies, desk_after}
+use Rattle.desk_run.specs.Run.{Answers}
 use Rattle.desk_run.specs.Session.{HasActed, HasRefused, HasSaid, refusal_of}
 use Rattle.desk_run.proofs.Replies.{acted-append, after-none, are-append, are-none, are-one}
 

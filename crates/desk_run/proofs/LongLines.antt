@@ -1,9 +1,7 @@
 -- Lines that are too long.
-use Rattle.std.proofs.Common.{◌≡◌, ◌<◌, ℕ, List, length, Result, Err, refl}
+use Rattle.std.proofs.Common.{◌≡◌, ◌<◌, ℕ, List, length, Err}
 use Rattle.std.proofs.lemmas.Bool.{cond-true, lt-ltb}
-use Rattle.session_script.specs.declared.faults.BadLine.{BadLine}
 use Rattle.session_script.specs.declared.faults.BadLine.TheVariants as faults
-use Rattle.session_script.specs.declared.parsed.Parsed.{Parsed}
 use Rattle.session_script.specs.Script.{line_said}
 
 pub too_long : (text : List ℕ) → 160000 < length text → line_said text ≡ Err faults.Long

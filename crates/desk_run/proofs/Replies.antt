@@ -5,7 +5,7 @@ use Rattle.workbook.specs.declared.commands.Command.{Command}
 use Rattle.workbook.specs.declared.history.Entry.{Entry}
 use Rattle.workbook.specs.declared.replies.Reply.{Reply}
 use Rattle.workbook.specs.Desk.{DeskState, desk_reply, desk_state, desk_terms}
-use Rattle.workbook.specs.History.{commands_of, replies_to_all, state_after_all, state_of}
+use Rattle.workbook.specs.History.{commands_of, replies_to_all, state_after_all}
 use Rattle.workbook.specs.State.{HostTerms, State, first_state}
 use Rattle.workbook.specs.Step.{reply_to, state_after}
 use Rattle.desk_run.specs.Run.{Answers, AreReplies, desk_after, session_entry}

@@ -1,16 +1,14 @@
 -- What a whole session leaves, once what it held was handed over.
-use Rattle.std.proofs.Common.{◌≡◌, ◌+◌, ◌<◌, ◌≤◌, ℕ, true, false, List, [], ◌∷◌, ◌++◌, length, Option, Some, None, Result, Ok, Err, IfErr, IsOk, OnErr, OnOk, refl, sym, ap, subst, ◌∙◌, append_assoc, append-nil, arith}
-use Rattle.host_io.specs.Count.{Rose}
+use Rattle.std.proofs.Common.{◌≡◌, ℕ, false, List, [], ◌++◌, Option, Some, None, Result, Ok, Err, IfErr, OnOk, refl, sym, ap, subst, ◌∙◌, append_assoc, append-nil}
 use Rattle.host_io.specs.declared.run_faults.RunFault.{RunFault}
 use Rattle.host_io.specs.declared.run_faults.RunFault.TheVariants as run_faults
 use Rattle.host_io.specs.LineReader.{LineReader}
-use Rattle.host_io.specs.Lines.{lines_of}
 use Rattle.host_io.specs.Sink.{Appends, AppendsPrefix}
 use Rattle.host_io.proofs.PublicLaws.{Appends-more, Appends-none}
 use Rattle.std.specs.Io.KnownBytes.{Keeps}
 use Rattle.workbook.specs.Desk.{DeskState}
 use Rattle.desk_run.specs.Output.{commands_of, lines_text}
-use Rattle.desk_run.specs.Run.{Answers, AreFirst, HasReadAll, HasRun, HasRunPart, HasRunTo, HasRunWhole, IsCaused}
+use Rattle.desk_run.specs.Run.{Answers, AreFirst, HasReadAll, HasRun, HasRunPart, HasRunTo, HasRunWhole}
 use Rattle.desk_run.specs.Session.{HasDone, HasLeft, HasText, IsBetween, IsFinished, IsStopped, Place, place}
 use Rattle.desk_run.proofs.Readings.{read-start}
 use Rattle.desk_run.proofs.Replies.{after-none, are-none}

@@ -1,5 +1,5 @@
 -- A session at a desk of which no server fails: what is written is what the steps give from the desk's state on.
-use Rattle.std.proofs.Common.{◌≡◌, ◌+◌, ◌-◌, ◌<◌, ◌≤◌, ℕ, IsTrue, List, [], ◌∷◌, ◌++◌, length, take, Option, Some, refl, sym, ap, subst, ◌∙◌, append_assoc, length-append, arith}
+use Rattle.std.proofs.Common.{◌≡◌, ◌+◌, ◌<◌, ◌≤◌, ℕ, IsTrue, List, ◌++◌, length, take, Option, Some, sym, ap, subst, ◌∙◌, append_assoc, length-append, arith}
 use Rattle.std.proofs.lemmas.List.{take-append-le}
 use Rattle.std.proofs.Math.Seq.{take-length}
 use Rattle.host_io.specs.Lines.{lines_of}
@@ -11,7 +11,7 @@ use Rattle.workbook.specs.Desk.{DeskState, desk_state, desk_terms}
 use Rattle.workbook.specs.History.{replies_to_all, state_after_all}
 use Rattle.workbook.specs.State.{HostTerms, State}
 use Rattle.desk_run.specs.Output.{commands_in, commands_of, lines_text, replies_from, replies_within}
-use Rattle.desk_run.specs.Run.{Answers, AreFirst, HasAnswered, HasBegun, HasRunFull, desk_after, room_of}
+use Rattle.desk_run.specs.Run.{Answers, HasAnswered, HasBegun, HasRunFull, desk_after, room_of}
 use Rattle.desk_run.proofs.Replies.{length-after, replies-append}
 use Rattle.desk_run.proofs.Texts.{commands_of-append, lines_text-left, lines_text-lines, lines_text-replies}
 

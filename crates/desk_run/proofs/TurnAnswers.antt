@@ -1,5 +1,5 @@
 -- What the calls of a turn answer, and where the session then is.
-use Rattle.std.proofs.Common.{◌≡◌, ◌⊎◌, inl, inr, ◌+◌, ◌-◌, ◌<◌, ◌≤◌, ℕ, Bool, true, false, List, [], ◌∷◌, ◌++◌, length, Option, Some, None, Result, Ok, Err, IfErr, IfOk, IfSome, OnErr, OnOk, refl, sym, ap, subst, ◌∙◌, arith}
+use Rattle.std.proofs.Common.{◌≡◌, ◌⊎◌, inl, inr, ◌+◌, ◌<◌, ◌≤◌, ℕ, Bool, true, false, List, [], length, Option, Some, None, Result, Ok, Err, IfErr, IfOk, IfSome, OnOk, refl, sym, ap, subst, ◌∙◌, arith}
 use Rattle.std.specs.Prelude.{MatchOption}
 use Rattle.std.specs.Io.KnownBytes.{IsAtEnd}
 use Rattle.std.proofs.lemmas.Bool.{false≢true}
@@ -12,7 +12,7 @@ use Rattle.host_io.specs.declared.reader.LineFault.TheVariants as faults
 use Rattle.host_io.specs.declared.run_faults.RunFault.{RunFault}
 use Rattle.host_io.specs.declared.run_faults.RunFault.TheVariants as run_faults
 use Rattle.host_io.specs.LineReader.{Advances, LineReader, backlog_of, given_out_count, Moves, Leaves, Spells, IsFirstLeft, IsTextOf}
-use Rattle.host_io.specs.Sink.{Appends, AppendsPrefix}
+use Rattle.host_io.specs.Sink.{AppendsPrefix}
 use Rattle.session_script.specs.declared.faults.BadLine.{BadLine}
 use Rattle.session_script.specs.declared.parsed.Parsed.{Parsed}
 use Rattle.session_script.specs.declared.parsed.Parsed.TheVariants as parsed
@@ -21,7 +21,7 @@ use Rattle.workbook.specs.Desk.{DeskState}
 use Rattle.desk_run.specs.declared.answering.Refusal.{Refusal}
 use Rattle.desk_run.specs.declared.answering.Refusal.TheVariants as refusals
 use Rattle.desk_run.specs.Output.{commands_said}
-use Rattle.desk_run.specs.Run.{Answers, IsCaused}
+use Rattle.desk_run.specs.Run.{Answers}
 use Rattle.desk_run.specs.Session.{HasRefused, HasSaid, IsBetween, IsFinished, IsReadCaused, IsRefusal, IsStopped, Place, has_text, place, refused_stop, stop_of}
 use Rattle.desk_run.proofs.Readings.{text_of}
 use Rattle.desk_run.proofs.Replies.{length-after}

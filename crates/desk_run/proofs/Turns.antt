@@ -1,7 +1,6 @@
 -- Where a session is after a line, a fault of its source, or what was handed over.
-use Rattle.std.proofs.Common.{◌≡◌, ◌⊎◌, inl, inr, ◌+◌, ◌<◌, ◌≤◌, ℕ, Bool, true, false, List, [], ◌∷◌, ◌++◌, length, Option, Some, None, IfSome, OnOk, Result, Ok, Err, refl, sym, ap, subst, ◌∙◌, append_assoc, append-nil, length-append, arith}
+use Rattle.std.proofs.Common.{◌≡◌, ◌⊎◌, inl, inr, ◌+◌, ◌<◌, ◌≤◌, ℕ, true, false, List, [], ◌∷◌, ◌++◌, length, Option, IfSome, OnOk, Result, Ok, Err, refl, sym, ap, subst, ◌∙◌, append_assoc, append-nil, length-append, arith}
 use Rattle.std.specs.Io.KnownBytes.{IsAtEnd}
-use Rattle.std.proofs.lemmas.Bool.{false≢true}
 use Rattle.host_io.specs.declared.reader.Line.{Line}
 use Rattle.host_io.specs.declared.reader.LineFault.{LineFault}
 use Rattle.host_io.specs.declared.reader.LineFault.TheVariants as faults
@@ -14,11 +13,10 @@ use Rattle.session_script.specs.Script.{line_said}
 use Rattle.workbook.specs.declared.commands.Command.{Command}
 use Rattle.workbook.specs.declared.replies.Reply.{Reply}
 use Rattle.workbook.specs.Desk.{DeskState}
-use Rattle.desk_run.specs.declared.answering.Refusal.{Refusal}
 use Rattle.desk_run.specs.declared.answering.Refusal.TheVariants as refusals
 use Rattle.desk_run.specs.Output.{commands_of, commands_of_line, commands_said, lines_text, replies_text, said_text}
 use Rattle.desk_run.specs.Run.{Answers, AreReplies, desk_after}
-use Rattle.desk_run.specs.Session.{HasDone, HasLeft, HasReadIfTold, HasRefused, HasSaid, HasText, IsBetween, IsFinished, IsStopped, Place, has_text, place, refused_stop, stop_of}
+use Rattle.desk_run.specs.Session.{HasLeft, HasReadIfTold, HasRefused, HasSaid, HasText, IsBetween, IsFinished, IsStopped, Place, has_text, place, stop_of}
 use Rattle.desk_run.proofs.Readings.{read-end, read-failed, read-first, read-line, read-over}
 use Rattle.desk_run.proofs.Replies.{acted-append, are-append}
 use Rattle.desk_run.proofs.Texts.{commands_of-one, lines_text-one, lines_text-part, lines_text-short}

@@ -1,7 +1,6 @@
 -- For the crate's own functions: what a session has read, answered, held and written.
-use Rattle.std.specs.Prelude.{◌≡◌, ◌⊎◌, ℕ, ◌<◌, ◌≤◌, Bool, true, false, IsTrue, Option, Some, None, List, [], ◌∷◌, ◌++◌, length, take, drop, Result}
+use Rattle.std.specs.Prelude.{◌≡◌, ℕ, ◌<◌, Bool, true, false, Option, Some, None, List, [], ◌++◌, length, Result}
 use Rattle.host_io.specs.Count.{Rose}
-use Rattle.host_io.specs.declared.limits.TheConstants.{MAX_INPUT}
 use Rattle.host_io.specs.declared.reader.Line.{Line}
 use Rattle.host_io.specs.declared.reader.Line.TheVariants as answers
 use Rattle.host_io.specs.declared.reader.LineFault.{LineFault}
@@ -9,8 +8,7 @@ use Rattle.host_io.specs.declared.reader.LineFault.TheVariants as faults
 use Rattle.host_io.specs.declared.run_faults.RunFault.{RunFault}
 use Rattle.host_io.specs.declared.run_faults.RunFault.TheVariants as run_faults
 use Rattle.host_io.specs.LineReader.{LineReader, HasGiven}
-use Rattle.host_io.specs.Lines.{lines_of, whole_lines}
-use Rattle.host_io.specs.Sink.{Appends, AppendsPrefix}
+use Rattle.host_io.specs.Sink.{Appends}
 use Rattle.session_script.specs.declared.faults.BadLine.{BadLine}
 use Rattle.session_script.specs.declared.parsed.Parsed.{Parsed}
 use Rattle.workbook.specs.declared.commands.Command.{Command}

@@ -1,4 +1,4 @@
-use Rattle.std.proofs.Common.{[], IfErr, rules}
+use Rattle.std.proofs.Common.{[], rules}
 use Rattle.desk_run.specs.Run.{HasRunPart}
 use Rattle.desk_run.specs.Session.{place}
 use Rattle.desk_run.proofs.Runs.{err_begun, ok_begun, ok_finished, ok_stopped}
