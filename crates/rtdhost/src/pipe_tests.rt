@@ -65,8 +65,7 @@ impl Sink for Hearing {
 
     fn write(&mut self, bytes: &[u8]) -> Result<usize, Failed> {
         self.finished = false;
-        self.replied
-            .fetch_add(bytes.len() as u64, Ordering::SeqCst);
+        self.replied.fetch_add(bytes.len() as u64, Ordering::SeqCst);
         Ok(bytes.len())
     }
 

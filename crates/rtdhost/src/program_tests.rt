@@ -239,13 +239,25 @@ fn lines_of_other_forms_are_bad(rt: HostRuntime) -> Result<(), Fail> {
 }
 
 #[test]
-fn a_line_that_is_too_long_is_bad(rt: HostRuntime) -> Result<(), Fail> {
+fn each_kind_of_bad_line(rt: HostRuntime) -> Result<(), Fail> {
     let mut bytes = vec![in rt.alloc(); b'x'; 160_001]?;
-    bytes.extend_from_slice(b"\n\xff\nset A1 1\n")?;
+    bytes.extend_from_slice(b"\n\xff\nset XFE1 1\nset A1048577 1\nset A1 =")?;
+    for _ in 0..65u32 {
+        bytes.extend_from_slice(b"IF(")?;
+    }
+    bytes.extend_from_slice(b"1")?;
+    for _ in 0..65u32 {
+        bytes.extend_from_slice(b",1)")?;
+    }
+    bytes.extend_from_slice(b"\njump\nset A1\nset A1 =1.5\nreturn x 1\nregister F #\nset A1 1\n")?;
     let mut src = MemorySource::new(bytes, 1000, Vec::new(rt.alloc()));
     let mut out = MemorySink::new(rt.alloc(), 1, Vec::new(rt.alloc()));
     assert_eq!(rt; run(rt.alloc(), &mut src, &mut out)?, Status::Ok);
-    assert_eq!(rt; out.written(), b"bad long\nbad utf8\nok\n".as_slice());
+    assert_eq!(rt;
+        str::from_utf8(out.written())?,
+        "bad long\nbad utf8\nbad ref\nbad ref\nbad formula deep\nbad word\nbad value\n\
+        bad formula syntax 2\nbad handle\nbad type macro\nok\n"
+    );
     Ok(())
 }
 
