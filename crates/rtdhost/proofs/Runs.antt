@@ -1,12 +1,12 @@
 -- What a session at the program's desk leaves.
-use Rattle.std.proofs.Common.{◌≡◌, ℕ, ◌<◌, ◌≤◌, true, List, [], length, take, drop, Option, Some, Result, Ok, Err, IfErr, OnOk, refl, sym, ap, subst, ◌∙◌, arith}
+use Rattle.std.proofs.Common.{◌≡◌, ℕ, ◌≤◌, true, List, [], Option, Some, Result, Ok, Err, IfErr, OnOk, refl, sym, subst, arith}
 use Rattle.addin_types.specs.Samples.{sample_answer}
-use Rattle.desk_run.specs.Output.{commands_in, replies_from, replies_within}
+use Rattle.desk_run.specs.Output.{commands_in, replies_from}
 use Rattle.desk_run.specs.Run.{HasRun, HasRunPart, HasRunTo}
 use Rattle.desk_run.proofs.PublicLaws.{answered_steady, begun_steady, full_steady}
 use Rattle.host_io.specs.declared.run_faults.RunFault.{RunFault}
 use Rattle.host_io.specs.declared.run_faults.RunFault.TheVariants as run_faults
-use Rattle.host_io.specs.Lines.{lines_of, whole_lines}
+use Rattle.host_io.specs.Lines.{lines_of}
 use Rattle.host_io.specs.Sink.{Appends, AppendsPrefix}
 use Rattle.workbook.specs.Desk.{DeskState}
 use Rattle.workbook.specs.State.{first_state}
