@@ -20,7 +20,7 @@ use Rattle.cell_values.specs.SameValue.{same_value}
 use Rattle.cell_values.specs.Topic.{same_topic}
 use Rattle.cell_values.proofs.PublicLaws.{same_topics}
 use Rattle.clean_cells.specs.Keeping.{KeepsClean, opening_topics}
-use Rattle.clean_cells.proofs.PublicLaws.{alike_kept, fresh_unchanged}
+use Rattle.clean_cells.proofs.PublicLaws.{alike_kept, fresh_unchanged, listed-passing}
 use Rattle.command_log.specs.Log.{LogParts, results_of}
 use Rattle.topic_source.specs.Source.{KeepsValues, SourceState}
 use Rattle.workbook.specs.declared.commands.BeginKind.{BeginKind}
@@ -47,7 +47,7 @@ use Rattle.host_core.specs.HostKeeping.{AreOfFormulas, HasAccepted, Keeps, Recal
 use Rattle.rtd_topics.specs.RtdState.{IsMoment, IsRtdState, RtdState, SameOpening, SameTopics, TakesRead, is_changed, reads_one, rtd_snapshot, source_of, standing_of, topics_changed, with_value_pulled}
 use Rattle.host_core.proofs.HostListeners.{listeners_fired}
 use Rattle.host_core.proofs.RtdStands.{opening_same, pulled_alike, rtd-done, rtd-pulled, runs_round, served_is, snapshot_is}
-use Rattle.host_core.proofs.TopicLists.{both_ways, counted_alike, first_of_two, listed-passing, listed_alike, second_of_two}
+use Rattle.host_core.proofs.TopicLists.{both_ways, counted_alike, first_of_two, listed_alike, second_of_two}
 use Rattle.host_core.proofs.TopicRounds.{listed_stale, noted-begun, stale_alike}
 use Rattle.host_core.proofs.TopicSteps.{among_readers, found_listed, lookup-topics_with, names_with_flag, reader_among, readers_among, some_listed}
 use mir.Syntax.{w64}

@@ -1,6 +1,5 @@
 -- Lemmas of this crate.
 pub mod TopicLists
-pub mod WithoutRtd
 pub mod TopicSteps
 pub mod TopicRounds
 pub mod RtdStands

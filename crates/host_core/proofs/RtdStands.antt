@@ -18,7 +18,7 @@ use Rattle.workbook.specs.State.{HostTerms, State, completed_setting, not_availa
 use Rattle.workbook.specs.Step.{after_done, failed_topics, taken_at_end}
 use Rattle.host_core.specs.HostKeeping.{IsOpening, StandsFor, is_known}
 use Rattle.rtd_topics.specs.RtdState.{RtdState, SameOpening, TakesRead, knows_topic, rtd_snapshot, source_of, standing_of, value_pulled, with_value_pulled}
-use Rattle.host_core.proofs.TopicLists.{lookup-append, lookup-map_entries}
+use Rattle.clean_cells.proofs.PublicLaws.{lookup-append, lookup-map_entries}
 use Rattle.host_core.proofs.TopicRounds.{is_in_use, lookup-left, read_in_use, readers-done}
 
 -- ---- what was published at the beginning

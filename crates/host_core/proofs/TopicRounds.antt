@@ -18,7 +18,7 @@ use Rattle.workbook.specs.State.{HostTerms, State, completed_setting, setting_of
 use Rattle.workbook.specs.Step.{failed_topics, knows_server, taken_at_end, topics_in_use}
 use Rattle.workbook.proofs.PublicLaws.{any_alike, cell_listed, formula_cells-has}
 use Rattle.host_core.specs.HostKeeping.{is_known}
-use Rattle.host_core.proofs.TopicLists.{listed-filter, listed-flat_map, listed-topics_once, lookup-of_topics}
+use Rattle.clean_cells.proofs.PublicLaws.{listed-filter, listed-flat_map, listed-topics_once, lookup-of_topics}
 use Rattle.host_core.proofs.TopicSteps.{reads_formula}
 
 -- ---- changed cells in another order
@@ -95,6 +95,12 @@ module _ (t : HostTerms) (s : State) where
       ∙ listed-flat_map (topics_of_cell (setting_of t s) s.book.contents) (formula_cells s.book.contents) topic
       ∙ any_alike (λ cell. is_listed (topics_of_cell (setting_of t s) s.book.contents cell) topic) (λ cell. is_read topic cell) (λ cell. cell_listed (setting_of t s) s.book.contents cell topic) (formula_cells s.book.contents)
 
+  swapped : (a b : Bool) → (a && b) ≡ (b && a)
+  swapped true true = refl
+  swapped true false = refl
+  swapped false true = refl
+  swapped false false = refl
+
   also_true : (b : Bool) → (b && true) ≡ b
   also_true true = refl
   also_true false = refl
@@ -110,6 +116,7 @@ module _ (t : HostTerms) (s : State) where
         lookup-of_topics (snapshot s) (filter stays (topics_in_use t s)) topic
         ∙ ap (λ b. cond b (Some (snapshot s topic)) None)
         (listed-filter stays (topics_in_use t s) topic
+        ∙ swapped (stays topic) (is_listed (topics_in_use t s) topic)
         ∙ ap (λ b. b && stays topic) (listed_in_use topic)
         ∙ ap (λ failed. is_in_use topic && (is_known s.servers topic.server && not (is_listed failed topic))) none
         ∙ ap (λ b. is_in_use topic && b) (also_true (is_known s.servers topic.server)))

@@ -26,8 +26,7 @@ use Rattle.workbook.specs.State.{KnownServer}
 use Rattle.workbook.specs.Step.{formulas_where, servers_with_flag, topics_with}
 use Rattle.workbook.proofs.PublicLaws.{cell_listed, formula_cells-has, or_false}
 use Rattle.host_core.specs.HostKeeping.{is_known}
-use Rattle.host_core.proofs.TopicLists.{same_topic_is}
-use Rattle.host_core.proofs.WithoutRtd.{calls_rtd, readers_call}
+use Rattle.clean_cells.proofs.PublicLaws.{calls_rtd, readers_call, same_topic_is}
 
 -- ---- names of servers
 abbrev names_of : List KnownServer → List (List ℕ)
