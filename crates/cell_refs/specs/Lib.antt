@@ -8,5 +8,6 @@ pub mod RefText
 pub mod Written
 -- What the crate's own functions keep.
 pub mod AreaWalk
+pub mod CellInput
 pub mod HandleReading
 pub mod Reading

@@ -1,8 +1,10 @@
 ghost use Rattle.std.specs.Prelude.{◌≡◌, ◌↔◌, IsSome, IfSome, Some, refl};
 ghost use Rattle.std.specs.Cmp.{eq_by_cmp_equiv, partial_equiv_from_equiv, partial_order_from_total};
 ghost use Rattle.cell_refs.specs.Cell.{cell_cmp, cells_total, same_cell};
+ghost use Rattle.cell_refs.specs.CellInput.{cell_input, same_cell_input};
 
 use std::cmp::Ordering;
+use std::hash::{Hash, Hasher};
 
 /// A cell of the grid: its sheet from 1 to 64, its row from 1 to 1,048,576 and its column from 1 to 16,384.
 /// It takes 8 bytes, for which its fields stand in another order than they are compared in.
@@ -41,6 +43,19 @@ impl PartialEq for Cell {
 
 impl Eq for Cell {
     ghost laws = { eq_by_cmp_equiv cells_total };
+}
+
+/// So that a cell can be the key of a map.
+impl Hash for Cell {
+    ghost hash_input = { cell_input };
+
+    ghost respects_eq = { same_cell_input };
+
+    fn hash<H: Hasher>(&self, state: &mut H) {
+        self.sheet.hash(state);
+        self.row.hash(state);
+        self.col.hash(state);
+    }
 }
 
 impl PartialOrd for Cell {

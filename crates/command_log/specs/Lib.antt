@@ -1,4 +1,2 @@
 -- What the product means.
 pub mod Log
--- What the crate's own functions keep.
-pub mod CellKey

@@ -1,4 +1,3 @@
-use super::cell_keys::CellKey;
 use cell_refs::Cell;
 use cell_values::Memory;
 use indexmap::IndexMap;
@@ -8,7 +7,7 @@ use std::marker::Model;
 /// For each cell with accepted values, the place behind that of the entry with its newest one.
 #[derive(Drop)]
 pub struct Heads {
-    places: IndexMap<CellKey, usize>,
+    places: IndexMap<Cell, usize>,
 }
 
 impl Model for Heads {
@@ -49,7 +48,7 @@ impl Heads {
     pub fn get(&self, cell: Cell) -> usize
         ensures { result ≡ head_of self.now.places cell }
     {
-        match self.places.get(&CellKey { cell }) {
+        match self.places.get(&cell) {
             Some(place) => *place,
             None => 0,
         }
@@ -62,7 +61,7 @@ impl Heads {
             ≡ (if same_cell cell q then Some place else lookup (same_cell q) self.old.places) }
         ensures room { self.old.spare ≤ self.new.spare + 1 }
     {
-        let Ok(_) = self.places.insert(CellKey { cell }, place) else {
+        let Ok(_) = self.places.insert(cell, place) else {
             unreachable!()
         };
     }
@@ -72,7 +71,7 @@ impl Heads {
         ensures { (q : OneCell) → lookup (same_cell q) self.new.places
             ≡ (if same_cell cell q then None else lookup (same_cell q) self.old.places) }
     {
-        let _ = self.places.swap_remove(&CellKey { cell });
+        let _ = self.places.swap_remove(&cell);
     }
 
     /// Takes these cells out. It takes no memory.

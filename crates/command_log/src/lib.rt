@@ -1,7 +1,6 @@
 //! The commands that a host answered, and the values that it accepted for asynchronous calls.
 #![tactic(auto)]
 
-mod cell_keys;
 mod heads;
 mod logs;
 #[cfg(test)]

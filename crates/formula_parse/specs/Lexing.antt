@@ -16,13 +16,13 @@ use Rattle.formula_parse.specs.declared.operators.Operator.{Operator}
 use Rattle.formula_parse.specs.declared.operators.Operator.TheVariants as operators
 use Rattle.formula_parse.specs.declared.tokens.Token.{Token}
 use Rattle.formula_parse.specs.declared.tokens.Token.TheVariants as tokens
-use Rattle.formula_parse.specs.Tokens.{number_value, is_word_byte}
+use Rattle.formula_parse.specs.Tokens.{numeral_value, is_word_byte}
 
 -- digits, to their end
 abbrev pub number_at : List ℕ → Option (Token × ℕ)
 number_at text =
     let digits = take_while is_ascii_digit text in
-    Some (tokens.Number (number_value digits), length digits)
+    Some (tokens.Number (numeral_value digits), length digits)
 
 -- the content of a text behind its first `"`, and its length up to the closing one
 abbrev pub content_at : List ℕ → Option (List ℕ × ℕ)

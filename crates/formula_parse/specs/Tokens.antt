@@ -18,8 +18,8 @@ use Rattle.formula_parse.specs.declared.tokens.Token.{Token}
 use Rattle.formula_parse.specs.declared.tokens.Token.TheVariants as tokens
 
 -- the number that digits write; one over the limit of 999,999,999,999,999 counts as the least one over it, since it is refused whatever it is
-abbrev pub number_value : List ℕ → ℤ
-number_value digits = pos (min (digits_value 10 digits) 1000000000000000)
+abbrev pub numeral_value : List ℕ → ℤ
+numeral_value digits = pos (min (digits_value 10 digits) 1000000000000000)
 
 -- the word of a boolean
 abbrev pub boolean_word : Bool → List ℕ
@@ -42,7 +42,7 @@ operator_text operators.Divide = codes "/"
 
 -- a piece of text writes a token: digits a number, a quoted text without control characters a text, an error word in any case an error, `TRUE` or `FALSE` in any case a boolean, a reference inside the grid itself, two with a `:` between them and no sheet at the second an area, a name and `(` a call of the callee that the name in upper case has
 abbrev pub Writes : List ℕ → Token → Type 0
-Writes piece (tokens.Number n) = IsNumeral 10 piece × (n ≡ number_value piece)
+Writes piece (tokens.Number n) = IsNumeral 10 piece × (n ≡ numeral_value piece)
 Writes piece (tokens.Text t) = (piece ≡ quotation_of t) × (list_any is_ascii_control t ≡ false)
 Writes piece (tokens.Error e) = capitals piece ≡ error_word e
 Writes piece (tokens.Boolean b) = capitals piece ≡ boolean_word b

@@ -1,7 +1,6 @@
 -- What the product means.
 pub mod Table
 -- What the crate's own functions keep.
-pub mod CellKey
 pub mod Linking
 pub mod Rows
 pub mod TopicKey

@@ -2,7 +2,6 @@ ghost use Rattle.std.specs.Prelude.{◌≡◌, ◌+◌, ◌<◌, false, [], ◌�
 ghost use Rattle.std.specs.List.{IsDistinct, slice_index_or};
 ghost use Rattle.cell_refs.specs.Cell.{is_among, same_cell};
 
-use super::cell_keys::CellKey;
 use cell_refs::Cell;
 use cell_values::Memory;
 use indexmap::IndexSet;
@@ -13,7 +12,7 @@ use std::marker::Model;
 #[derive(Drop)]
 pub struct CellList {
     cells: Vec<Cell>,
-    keys: IndexSet<CellKey>,
+    keys: IndexSet<Cell>,
 }
 
 impl Model for CellList {
@@ -62,7 +61,7 @@ impl CellList {
         ensures once { IsDistinct same_cell self.now }
     {
         let _unique = self.keys.len();
-        self.keys.get_index_of(&CellKey { cell })
+        self.keys.get_index_of(&cell)
     }
 
     /// Adds a cell that isn't there. A refusal changes nothing.
@@ -73,7 +72,7 @@ impl CellList {
         ensures succeeds { self.old ≡ [] → IsOk result }
     {
         self.cells.reserve(1)?;
-        self.keys.insert(CellKey { cell })?;
+        self.keys.insert(cell)?;
         let _ = self.cells.push(cell);
         Ok(())
     }

@@ -1,7 +1,6 @@
 //! The connected topics of real-time data, and the cells that read them.
 #![tactic(auto)]
 
-mod cell_keys;
 mod cell_lists;
 mod links;
 mod places;

@@ -5,7 +5,6 @@ ghost use Rattle.cell_refs.specs.Cell.{same_cell};
 ghost use Rattle.topic_table.specs.Linking.{has_link, links_at};
 ghost use Rattle.topic_table.specs.Table.{has_reader};
 
-use super::cell_keys::CellKey;
 use super::rows::Rows;
 use cell_refs::Cell;
 use cell_values::Memory;
@@ -62,7 +61,7 @@ impl Ids {
 #[derive(Drop)]
 pub struct Links {
     alloc: Global,
-    links: IndexMap<CellKey, Ids>,
+    links: IndexMap<Cell, Ids>,
 }
 
 impl Model for Links {
@@ -97,7 +96,7 @@ impl Links {
     pub fn ids(&self, cell: Cell) -> &[u64]
         ensures { result.now ≡ links_at self.now cell }
     {
-        match self.links.get(&CellKey { cell }) {
+        match self.links.get(&cell) {
             Some(ids) => &ids.ids,
             None => &[],
         }
@@ -110,12 +109,12 @@ impl Links {
         ensures refused { OnErr result ((c : OneCell) (q : ℕ) → has_link self.new c q
             ≡ has_link self.old c q) }
     {
-        if let Some(ids) = self.links.get_mut(&CellKey { cell }) {
+        if let Some(ids) = self.links.get_mut(&cell) {
             ids.add(id)?;
             return Ok(());
         }
         let ids = Ids::one(self.alloc, id)?;
-        self.links.insert(CellKey { cell }, ids)?;
+        self.links.insert(cell, ids)?;
         Ok(())
     }
 
@@ -124,7 +123,7 @@ impl Links {
         ensures { (c : OneCell) (q : ℕ) → has_link self.new c q
             ≡ (has_link self.old c q && (not (same_cell c cell) || has_reader rows.now q cell)) }
     {
-        let Some(ids) = self.links.get_mut(&CellKey { cell }) else {
+        let Some(ids) = self.links.get_mut(&cell) else {
             return;
         };
         ids.retain_read(cell, rows);

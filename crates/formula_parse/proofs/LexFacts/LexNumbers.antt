@@ -11,7 +11,7 @@ use Rattle.cell_refs.proofs.PublicLaws.{take_while-append, front_and_rest, rest_
 use Rattle.formula_parse.specs.declared.tokens.Token.{Token}
 use Rattle.formula_parse.specs.declared.tokens.Token.TheVariants as tokens
 use Rattle.formula_parse.specs.Lexing.{token_at}
-use Rattle.formula_parse.specs.Tokens.{number_value}
+use Rattle.formula_parse.specs.Tokens.{numeral_value}
 use Rattle.formula_parse.proofs.LexFacts.LexFirst.{Found, found_as, first_passes, passes_first, at_digit}
 
 -- the test for digits
@@ -44,7 +44,7 @@ pub number_found : (b : ℕ) (rest : List ℕ) (token : Token) (n : ℕ) → is_
 number_found b rest token n d h =
     let text = b ∷ rest in
     let front = take_while is_ascii_digit text in
-    found_as text (tokens.Number (number_value front)) token (length front) n (sym (at_digit b rest d) ∙ h) (record {
+    found_as text (tokens.Number (numeral_value front)) token (length front) n (sym (at_digit b rest d) ∙ h) (record {
       piece = front;
       rest = drop (length front) text;
       whole = front_and_rest is_ascii_digit text;
@@ -55,7 +55,7 @@ number_found b rest token n d h =
     })
 
 -- a digit begins a number
-pub number_begins : (b : ℕ) (rest : List ℕ) → is_ascii_digit b ≡ true → token_at (b ∷ rest) ≡ Some (tokens.Number (number_value (take_while is_ascii_digit (b ∷ rest))), length (take_while is_ascii_digit (b ∷ rest)))
+pub number_begins : (b : ℕ) (rest : List ℕ) → is_ascii_digit b ≡ true → token_at (b ∷ rest) ≡ Some (tokens.Number (numeral_value (take_while is_ascii_digit (b ∷ rest))), length (take_while is_ascii_digit (b ∷ rest)))
 number_begins b rest d = at_digit b rest d
 
 -- a numeral begins with a digit
@@ -63,9 +63,9 @@ pub numeral_first : (b : ℕ) (bs : List ℕ) → IsNumeral 10 (b ∷ bs) → is
 numeral_first b bs w = (and_parts (is_ascii_digit b) _ (digits.from (b ∷ bs) w.1)).0
 
 -- the number that is written is found
-pub number_written : (piece rest : List ℕ) → IsNumeral 10 piece → first_passes is_ascii_digit rest ≡ false → token_at (piece ++ rest) ≡ Some (tokens.Number (number_value piece), length piece)
+pub number_written : (piece rest : List ℕ) → IsNumeral 10 piece → first_passes is_ascii_digit rest ≡ false → token_at (piece ++ rest) ≡ Some (tokens.Number (numeral_value piece), length piece)
 number_written [] rest w stops = absurd (omega (arith, w.0))
 number_written (b ∷ bs) rest w stops =
     let all : list_all is_ascii_digit (b ∷ bs) ≡ true = digits.from (b ∷ bs) w.1 in
     let front : take_while is_ascii_digit (b ∷ bs ++ rest) ≡ b ∷ bs = take_while-append is_ascii_digit (b ∷ bs) rest refl all (passes_first is_ascii_digit rest refl ∙ stops) in
-    at_digit b (bs ++ rest) (and_parts _ _ all).0 ∙ ap (λ ds. Some (tokens.Number (number_value ds), length ds)) front
+    at_digit b (bs ++ rest) (and_parts _ _ all).0 ∙ ap (λ ds. Some (tokens.Number (numeral_value ds), length ds)) front

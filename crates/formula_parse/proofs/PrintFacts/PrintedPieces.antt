@@ -27,7 +27,7 @@ use Rattle.formula_parse.specs.declared.operators.Operator.TheVariants as operat
 use Rattle.formula_parse.specs.declared.tokens.Token.{Token}
 use Rattle.formula_parse.specs.declared.tokens.Token.TheVariants as tokens
 use Rattle.formula_parse.specs.Printing.{token_text}
-use Rattle.formula_parse.specs.Tokens.{Writes, boolean_word, number_value, operator_text}
+use Rattle.formula_parse.specs.Tokens.{Writes, boolean_word, numeral_value, operator_text}
 use Rattle.formula_parse.proofs.NamingTokens.{whole_reference}
 use Rattle.formula_parse.proofs.CalleeLaws.{text_of_callee}
 
@@ -163,7 +163,7 @@ number_low : (v : ℕ) → min v 1000000000000000 < 2 ^ 64
 number_low v = omega arith
 
 -- the decimals of a number write it
-number_writes : (piece : List ℕ) → IsNumeral 10 (decimal (printed_number piece)) × (number_value piece ≡ number_value (decimal (printed_number piece)))
+number_writes : (piece : List ℕ) → IsNumeral 10 (decimal (printed_number piece)) × (numeral_value piece ≡ numeral_value (decimal (printed_number piece)))
 number_writes piece =
     let d = decimal_is_IsNumeral (printed_number piece) (number_low (digits_value 10 piece)) in
     let least : min (printed_number piece) 1000000000000000 ≡ printed_number piece = omega arith in
@@ -181,7 +181,7 @@ pub canonical : (piece : List ℕ) (token : Token) → Writes piece token → Wr
 canonical piece (tokens.Number n) w =
     let h = number_writes piece in
     let is : unsigned_abs n ≡ printed_number piece = ap unsigned_abs w.1 in
-    (subst (λ v. IsNumeral 10 (decimal v)) (sym is) h.0, w.1 ∙ h.1 ∙ ap (λ v. number_value (decimal v)) (sym is))
+    (subst (λ v. IsNumeral 10 (decimal v)) (sym is) h.0, w.1 ∙ h.1 ∙ ap (λ v. numeral_value (decimal v)) (sym is))
 canonical piece (tokens.Text t) w = (refl, w.1)
 canonical piece (tokens.Error e) w = error_capitals e
 canonical piece (tokens.Boolean b) w = boolean_capitals b
