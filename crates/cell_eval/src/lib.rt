@@ -14,8 +14,6 @@ mod orders;
 mod outcomes;
 mod resuming;
 mod sites;
-#[cfg(test)]
-mod tests;
 mod topics;
 
 pub use cell_values::Topic;

@@ -14,8 +14,6 @@ mod parser;
 mod printer;
 mod reader;
 mod stack;
-#[cfg(test)]
-mod tests;
 mod tokens;
 mod trees;
 

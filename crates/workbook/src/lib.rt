@@ -11,8 +11,6 @@ mod laws;
 mod lists;
 mod registry;
 mod replies;
-#[cfg(test)]
-mod tests;
 
 pub use books::{Book, CELL_LIMIT, FORMULA_LIMIT, SetFault};
 pub use commands::{BeginKind, Command, Form, Moment};

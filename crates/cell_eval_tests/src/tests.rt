@@ -1,7 +1,9 @@
-use super::*;
 use addin_types::{Kind, Registration, SampleAddIns};
+use cell_eval::{
+    Inputs, Job, Outcome, Registrations, Results, Topics, eval, eval_closed, is_in_order,
+};
 use cell_refs::Cell;
-use cell_values::{Name, Text, Texts, Value, print_value, read_value};
+use cell_values::{Name, Text, Texts, Topic, Value, print_value, read_value};
 use formula_parse::parse;
 use std::alloc::Global;
 use std::test::Fail;

@@ -1,9 +1,5 @@
-use super::faults::ParseFault;
-use super::naming::{called_names, has_rtd_call, names, sites};
-use super::nodes::Node;
-use super::parser::parse;
-use super::printer::print;
 use cell_refs::Area;
+use formula_parse::{Node, ParseFault, called_names, has_rtd_call, names, parse, print, sites};
 use std::alloc::{AllocError, Global};
 use std::test::Fail;
 use std::thread::join;

@@ -1,13 +1,13 @@
-use super::books::{Book, CELL_LIMIT, FORMULA_LIMIT, SetFault};
-use super::commands::{BeginKind, Command, Form, Moment};
-use super::contents::Content;
-use super::replies::SheetCells;
 use addin_types::{Kind, Registration};
 use cell_refs::{Cell, Handle};
 use cell_values::{ErrorKind, Name, Text, Value};
 use formula_parse::{parse, print};
 use std::alloc::Global;
 use std::test::Fail;
+use workbook::{
+    BeginKind, Book, CELL_LIMIT, Command, Content, FORMULA_LIMIT, Form, Moment, SetFault,
+    SheetCells,
+};
 
 fn cell(sheet: u8, row: u32, col: u16) -> Cell {
     Cell { sheet, row, col }

@@ -1,0 +1,5 @@
+//! Tests of `formula_parse`, over its library as it was proved.
+#![tactic(auto)]
+
+#[cfg(test)]
+mod tests;
