@@ -8,8 +8,6 @@ mod cells;
 mod contents;
 mod faults;
 mod forms;
-#[cfg(test)]
-mod hostile_tests;
 mod laws;
 mod limits;
 mod parsed;
@@ -18,12 +16,8 @@ mod rounds;
 mod script;
 mod servers;
 mod strings;
-#[cfg(test)]
-mod tests;
 mod verbs;
 mod writing;
-#[cfg(test)]
-mod written_tests;
 
 pub use bad_words::bad_word;
 pub use faults::BadLine;

@@ -1,8 +1,5 @@
-use super::faults::BadLine;
-use super::parsed::Parsed;
-use super::pushing::push;
-use super::{MAX_LINE, bad_word, read_line, write_line};
 use cell_values::Memory;
+use session_script::{BadLine, MAX_LINE, Parsed, bad_word, read_line, write_line};
 use std::alloc::Global;
 use std::test::Fail;
 use workbook::BeginKind;
@@ -115,12 +112,12 @@ fn calc_text(kind: BeginKind) -> &'static str {
 fn told(alloc: Global, line: &[u8]) -> Result<Vec<u8>, Memory> {
     let mut out = Vec::new(alloc);
     match read_line(alloc, line) {
-        Ok(Parsed::Empty) => push(b"nothing", &mut out)?,
+        Ok(Parsed::Empty) => out.extend_from_slice(b"nothing")?,
         Ok(Parsed::One(command)) => write_line(&command, &mut out)?,
-        Ok(Parsed::Calc(kind)) => push(calc_text(kind).as_bytes(), &mut out)?,
+        Ok(Parsed::Calc(kind)) => out.extend_from_slice(calc_text(kind).as_bytes())?,
         Err(BadLine::Memory) => return Err(Memory),
         Err(bad) => {
-            push(b"bad ", &mut out)?;
+            out.extend_from_slice(b"bad ")?;
             bad_word(&bad, &mut out)?;
         }
     }
@@ -249,11 +246,11 @@ fn repeated(
     back: &str,
 ) -> Result<Vec<u8>, Memory> {
     let mut line = Vec::new(alloc);
-    push(front.as_bytes(), &mut line)?;
+    line.extend_from_slice(front.as_bytes())?;
     for _ in 0..count {
-        push(part.as_bytes(), &mut line)?;
+        line.extend_from_slice(part.as_bytes())?;
     }
-    push(back.as_bytes(), &mut line)?;
+    line.extend_from_slice(back.as_bytes())?;
     Ok(line)
 }
 
@@ -286,7 +283,7 @@ fn each_limit_and_one_past_it(rt: HostRuntime) -> Result<(), Fail> {
 fn told_of_bytes(alloc: Global, byte: u8, count: usize) -> Result<Vec<u8>, Memory> {
     let mut line = Vec::new(alloc);
     for _ in 0..count {
-        push(&[byte], &mut line)?;
+        line.extend_from_slice(&[byte])?;
     }
     told(alloc, line.as_slice())
 }

@@ -3,7 +3,7 @@ use Rattle.std.specs.Str.{chars}
 use Rattle.std.proofs.lemmas.List.Elements.{All-cons, All-nil}
 use Rattle.std.proofs.lemmas.Str.{chars_from_encodes}
 use Rattle.workbook.specs.InForm.{AreStringsInForm}
-use Rattle.host_core.proofs.samples.publish_command.Goals as goal
+use Rattle.host_core_tests.proofs.samples.publish_command.Goals as goal
 
 pub returns : goal.returns
 returns c =

@@ -10,11 +10,11 @@ use super::samples::{
     number_command, publish_command, pull_command, register_command, return_command,
     throttle_command,
 };
-use super::{Host, PlainDesk};
 use addin_types::{Call, SampleAddIns};
 use cell_refs::{Cell, Handle};
 use cell_values::{Event, Name, Value};
 use formula_parse::{Tree, parse};
+use host_core::{Host, PlainDesk};
 use rtd_server::FeedMaker;
 use std::alloc::Global;
 use std::process::Abort;

@@ -1,11 +1,10 @@
 //! Lines of generated commands, each read back.
 
-use super::parsed::Parsed;
-use super::{read_line, write_line};
 use addin_types::{Kind, Registration};
 use cell_refs::{Cell, Handle};
 use cell_values::{ErrorKind, Memory, Name, Text, Texts, Value};
 use formula_parse::{Tree, parse, print};
+use session_script::{Parsed, read_line, write_line};
 use std::alloc::Global;
 use std::test::Fail;
 use workbook::{BeginKind, Command, Content, Form, Moment};

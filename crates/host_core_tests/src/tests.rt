@@ -1,5 +1,5 @@
-use super::{Host, PlainDesk};
 use addin_types::SampleAddIns;
+use host_core::{Host, PlainDesk};
 use rtd_server::FeedMaker;
 use std::test::Fail;
 use workbook::{Command, Desk};
