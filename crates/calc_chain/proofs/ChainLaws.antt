@@ -156,7 +156,7 @@ filter_without p (z ∷ zs) x fails = elim (z == x) as (λ b. (z == x) ≡ b →
   | false ↦ λ e. ap (λ ys. cond (p z) (z ∷ ys) ys) (filter_without p zs x fails)
 ] refl
 
-gone : (xs : List ℕ) (x : ℕ) → has (without xs x) x ≡ false
+pub gone : (xs : List ℕ) (x : ℕ) → has (without xs x) x ≡ false
 gone xs x = has-filter (λ y. not (y == x)) xs x ∙ never (has xs x) (x == x) (itself x)
   where
     never : (a b : Bool) → b ≡ true → (a && not b) ≡ false

@@ -1,4 +1,10 @@
 -- Laws of the chain.
 mod ChainLaws
 mod ListLaws
+mod OrderLaws
 pub mod PublicLaws
+mod RenewalLaws
+mod CrowdLaws
+mod KeepsLaws
+mod LabelLaws
+mod LinkLaws

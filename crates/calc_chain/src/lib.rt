@@ -2,7 +2,12 @@
 #![tactic(auto)]
 
 mod chains;
+mod due;
+mod linking;
 mod lists;
+mod orders;
+mod renewal;
+mod slots;
 #[cfg(test)]
 mod tests;
 
