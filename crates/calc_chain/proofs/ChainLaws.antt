@@ -14,6 +14,10 @@ use Rattle.calc_chain.proofs.ListLaws.{distinct_filter, distinct_head, distinct_
 pub chain-new : IsChain (record { entries = []; due = [] })
 chain-new = record { once = distinct_none; due = refl }
 
+pub and_second : (a b : Bool) → (a && b) ≡ true → b ≡ true
+and_second true b h = h
+and_second false b h = cc
+
 and_first : (a b : Bool) → (a && b) ≡ true → a ≡ true
 and_first true b h = refl
 and_first false b h = h
@@ -105,10 +109,6 @@ chain-without entries due x chain =
           ∙ ap (filter keeps) chain.due;
     }
   where
-    and_second : (a b : Bool) → (a && b) ≡ true → b ≡ true
-    and_second true b h = h
-    and_second false b h = cc
-
     and_true : (a b : Bool) → b ≡ true → (a && b) ≡ a
     and_true true b h = h
     and_true false b h = refl

@@ -5,6 +5,7 @@ mod OrderLaws
 pub mod PublicLaws
 mod RenewalLaws
 mod CrowdLaws
+mod DueLaws
 mod KeepsLaws
 mod LabelLaws
 mod LinkLaws

@@ -26,7 +26,7 @@ put_is_insert (w ∷ ws) y x h = elim (nat_eq w y) as (λ b. nat_eq w y ≡ b �
 ] refl
   where
     step : (i : ℕ) → w ∷ insert ws (i + 1) x ≡ insert (w ∷ ws) ((1 + i) + 1) x
-    step i = ap (λ m. insert (w ∷ ws) m x) (omega arith)
+    step i = let same : suc (i + 1) ≡ (1 + i) + 1 = omega arith in ap (λ m. insert (w ∷ ws) m x) same
 
 -- a list without an entry is one shorter
 pub without_length : (xs : List ℕ) (x : ℕ) → IsDistinct nat_eq xs → has xs x ≡ true → length (without xs x) + 1 ≡ length xs

@@ -1,6 +1,8 @@
 ghost use Rattle.std.specs.Prelude.{◌≡◌};
 
-use super::lists::{flag, make_room, place_of, push_flagged, take_out};
+use super::due::DueList;
+use super::orders::LinkedOrder;
+use super::slots::END;
 use cell_refs::{Memory, Steps};
 use std::alloc::Global;
 use std::marker::Model;
@@ -9,24 +11,23 @@ use std::sync::ledger::Ledger;
 /// Numbers in an order, each once, of which some are due.
 #[derive(Drop)]
 pub struct Chain {
-    order: Vec<u32>,
-    /// The last one that is due first. It has room for the whole order.
-    due: Vec<u32>,
-    /// Room for a flag for each number up to the greatest in the order.
-    flags: Vec<bool>,
+    order: LinkedOrder,
+    /// It has room for the whole order, and for a flag of each entry.
+    due: DueList,
 }
 
 impl Model for Chain {
-    ghost use Rattle.std.specs.Prelude.{ℕ, ◌≡◌, ◌<◌, ◌≤◌, true, length, reverse, vec_len, vec_capacity};
+    ghost use Rattle.std.specs.Prelude.{ℕ, ◌≡◌, ◌<◌, ◌≤◌, true, length, vec_capacity};
     ghost use Rattle.calc_chain.specs.Chain.{IsChain, Order, has};
+    ghost use Rattle.calc_chain.specs.Due.{due_of};
 
     ghost Value = { Order };
 
-    ghost view = { λ c. record { entries = c.order.items; due = reverse c.due.items } };
+    ghost view = { λ c. record { entries = c.order; due = due_of c.due } };
 
-    ghost invariant = { λ c. (vec_len c.order ≤ vec_capacity c.due)
-        × ((x : ℕ) → has c.order.items x ≡ true → x < length c.flags.items)
-        × IsChain (record { entries = c.order.items; due = reverse c.due.items }) };
+    ghost invariant = { λ c. (length c.order ≤ vec_capacity c.due.numbers)
+        × ((x : ℕ) → has c.order x ≡ true → x < length c.due.flags.items)
+        × IsChain (record { entries = c.order; due = due_of c.due }) };
 }
 
 impl Chain {
@@ -39,9 +40,8 @@ impl Chain {
         ensures { result ≡ record { entries = []; due = [] } }
     {
         Chain {
-            order: Vec::new(alloc),
-            due: Vec::new(alloc),
-            flags: Vec::new(alloc),
+            order: LinkedOrder::new(alloc),
+            due: DueList::new(alloc),
         }
     }
 
@@ -52,10 +52,11 @@ impl Chain {
             (self.new ≡ record self.old { entries = self.old.entries ++ x ∷ [] }) }
         ensures refused { OnErr result (self.new ≡ self.old) }
     {
-        let more = self.order.len() + 1 - self.due.len();
-        self.due.reserve(more)?;
-        make_room(&mut self.flags, x)?;
-        self.order.push(x)?;
+        if x == END {
+            return Err(Memory);
+        }
+        self.due.make_room(self.order.len() + 1, x)?;
+        self.order.append(x)?;
         Ok(())
     }
 
@@ -66,8 +67,8 @@ impl Chain {
           due = without self.old.due x;
         } }
     {
-        take_out(&mut self.order, x);
-        take_out(&mut self.due, x);
+        self.order.remove(x);
+        self.due.remove(x);
     }
 
     /// Makes these entries due, and no others. It takes no memory.
@@ -76,9 +77,7 @@ impl Chain {
         requires once { IsDistinct nat_eq due.now }
         ensures { self.new ≡ record self.old { due = entries_among self.old.entries due.now } }
     {
-        flag(&mut self.flags, due);
-        self.due.clear();
-        push_flagged(&self.order, &self.flags, &mut self.due);
+        self.due.fill(due, &self.order);
     }
 
     /// The first entry that is due, which then is due no longer; None exactly where none is. It takes no memory.
@@ -88,7 +87,7 @@ impl Chain {
         ensures tick { steps.new ≡ steps.old + 1 }
     {
         steps.tick();
-        self.due.pop()
+        self.due.next()
     }
 
     /// Whether an entry stands behind another.
@@ -98,7 +97,7 @@ impl Chain {
         requires second { has self.now.entries y ≡ true }
         ensures { result ≡ is_behind self.now.entries x y }
     {
-        place_of(&self.order, y) < place_of(&self.order, x)
+        self.order.behind(x, y)
     }
 
     /// Moves an entry that isn't due directly behind another, where it doesn't stand behind it. It takes no memory.
@@ -112,12 +111,10 @@ impl Chain {
               else moved_behind self.old.entries x y;
         } }
     {
-        if self.behind(x, y) {
+        if self.order.behind(x, y) {
             return;
         }
-        take_out(&mut self.order, x);
-        let place = place_of(&self.order, y);
-        let _ = self.order.insert(place + 1, x);
+        self.order.move_behind(x, y);
     }
 
     /// The entries, in chain order.
@@ -125,8 +122,6 @@ impl Chain {
         ensures entries { IfOk result (λ list. list.items ≡ self.now.entries) }
         ensures chain { IsChain self.now }
     {
-        let mut list = Vec::new(alloc);
-        list.extend_from_slice(&self.order)?;
-        Ok(list)
+        self.order.list(alloc)
     }
 }

@@ -68,8 +68,8 @@ impl DueList {
         ensures flags { length self.new.flags.items ≡ length self.old.flags.items }
     {
         fill_reserved(&mut self.numbers, due);
-        raise(self.flags.as_mut_slice(), due);
-        order.sort(self.numbers.as_mut_slice());
+        raise(&mut self.flags, due);
+        put_in_order(&mut self.numbers, order);
         self.taken = 0;
     }
 
@@ -123,8 +123,28 @@ fn fill_reserved(numbers: &mut Vec<u32>, others: &[u32])
     let _ = numbers.extend_from_slice(others);
 }
 
+/// Puts entries into the order in which they stand.
+fn put_in_order(numbers: &mut Vec<u32>, order: &LinkedOrder)
+    requires entries { (x : ℕ) → has numbers.old.items x ≡ true → has order.now x ≡ true }
+    requires once { IsDistinct nat_eq numbers.old.items }
+    ensures items { numbers.new.items ≡ entries_among order.now numbers.old.items }
+    ensures room { vec_capacity numbers.new ≡ vec_capacity numbers.old }
+{
+    order.sort(numbers.as_mut_slice());
+}
+
 /// Flags each of some numbers.
-fn raise(flags: &mut [bool], numbers: &[u32])
+fn raise(flags: &mut Vec<bool>, numbers: &[u32])
+    requires { (x : ℕ) → has numbers.now x ≡ true → x < length flags.old.items }
+    ensures raised { (x : ℕ) → has numbers.now x ≡ true
+        → slice_index_or flags.new.items x false ≡ true }
+    ensures len { length flags.new.items ≡ length flags.old.items }
+{
+    raise_each(flags.as_mut_slice(), numbers);
+}
+
+/// The same in a slice.
+fn raise_each(flags: &mut [bool], numbers: &[u32])
     requires { (x : ℕ) → has numbers.now x ≡ true → x < length flags.old }
     ensures raised { (x : ℕ) → has numbers.now x ≡ true
         → slice_index_or flags.new x false ≡ true }

@@ -4,7 +4,6 @@
 mod chains;
 mod due;
 mod linking;
-mod lists;
 mod orders;
 mod renewal;
 mod slots;

@@ -1,21 +1,26 @@
-use Rattle.std.proofs.Common.{◌≡◌, true, false, arith, ap, subst, sym, reverse, ⊎_elim}
-use Rattle.calc_chain.specs.Chain.{has}
-use Rattle.calc_chain.proofs.ChainLaws.{chain-append, chain-same, due-few, has-push}
+use Rattle.std.proofs.Common.{◌≡◌, ℕ, List, [], ◌∷◌, ◌++◌, true, false, arith, refl, ap, length, subst, sym, ◌∙◌, ⊎_elim}
+use Rattle.calc_chain.specs.Chain.{Order, has}
+use Rattle.calc_chain.specs.Due.{due_of}
+use Rattle.calc_chain.proofs.ChainLaws.{chain-append, chain-same, has-push}
+use Rattle.calc_chain.proofs.OrderLaws.{push_length}
 use Rattle.calc_chain.proofs.chains.Chain.append.Goals as goal
-
-pub overflow_sub-more : goal.overflow_sub-more
-overflow_sub-more c = let few = due-few c.self.inside.order.items c.self.inside.due.items c.self.invariant.2 in omega (arith, few)
 
 pub invariant_of-self-2 : goal.invariant_of-self-2
 invariant_of-self-2 c =
-    let few = due-few c.self.inside.order.items c.self.inside.due.items c.self.invariant.2 in
-    let absent : has c.self.inside.order.items c.args.x ≡ false = subst (λ v. has v.entries c.args.x ≡ false) (sym c.self.view_is) c.requires.new in
-    let room = c.in_ok-reserve.ensures.ok in
-    let longer = c.in_ok-push.ensures.len in (
-      omega (arith, few, room, longer),
-      λ q h. ⊎_elim
-          (λ old. let fits = c.self.invariant.1 q old in let kept = c.make_room.ensures.kept in omega (arith, fits, kept))
-          (λ is. let fits = c.in_ok-make_room.ensures.room in omega (arith, is, fits))
-          (has-push c.self.inside.order.items c.args.x q (subst (λ xs. has xs q ≡ true) c.in_ok-push.ensures.items h)),
-      chain-same _ _ _ _ c.in_ok-push.ensures.items (ap reverse c.reserve.ensures.items) (chain-append c.self.inside.order.items _ c.args.x c.self.invariant.2 absent),
+    let order = c.self.inside.order in
+    let due = due_of c.self.inside.due in
+    let absent : has order c.args.x ≡ false = subst (λ (v : Order). has v.entries c.args.x ≡ false) (sym c.self.view_is) c.requires.new in
+    let is : c.append.new.self ≡ order ++ c.args.x ∷ [] = c.in_ok-append.ensures.ok in
+    let long = ap length is in
+    let more = push_length order c.args.x in
+    let room = c.in_ok-make_room.ensures.room in
+    let count = c.len.ensures in
+    let flags = c.make_room.ensures.flags in
+    let flag = c.in_ok-make_room.ensures.flag in (
+      omega (arith, long, more, room, count),
+      λ q t. ⊎_elim
+          (λ old. let fits = c.self.invariant.1 q old in omega (arith, fits, flags))
+          (λ same. omega (arith, same, flag))
+          (has-push order c.args.x q (subst (λ xs. has xs q ≡ true) is t)),
+      chain-same (order ++ c.args.x ∷ []) due c.append.new.self (due_of c.make_room.new.self) is c.make_room.ensures.due (chain-append order due c.args.x c.self.invariant.2 absent),
     )
