@@ -1,14 +1,13 @@
 -- Entries behind another that get new labels.
-use Rattle.std.proofs.Common.{◌≡◌, ◌≢◌, ℕ, zero, suc, ◌+◌, ◌*◌, ◌<◌, ◌≤◌, ◌^◌, Bool, true, false, ◌||◌, ◌==◌, List, [], ◌∷◌, ◌++◌, ◌⊎◌, length, ⊎_elim, inl, inr, refl, ap, sym, subst, ◌∙◌, arith}
+use Rattle.std.proofs.Common.{◌≡◌, ◌≢◌, ℕ, zero, suc, ◌+◌, ◌*◌, ◌<◌, ◌≤◌, Bool, true, false, ◌||◌, List, [], ◌∷◌, ◌++◌, ◌⊎◌, length, ⊎_elim, inl, inr, refl, ap, sym, subst, ◌∙◌, arith}
 use Rattle.std.specs.List.{IsDistinct}
-use Rattle.std.specs.Prelude.{nat_eq, nat_lt}
+use Rattle.std.specs.Prelude.{nat_eq}
 use Rattle.std.proofs.lemmas.Bool.{or_cases, or_left, or_right, or_parts}
-use Rattle.std.proofs.lemmas.Bool.Decides.{nat_tests}
 use Rattle.calc_chain.specs.Chain.{has}
 use Rattle.calc_chain.specs.Linking.{AreLinked, Rise, nth, walk}
-use Rattle.calc_chain.proofs.LabelLaws.{rise-between, rise-same}
+use Rattle.calc_chain.proofs.LabelLaws.{rise-same}
 use Rattle.calc_chain.proofs.LinkLaws.{away, head_apart, here, later, next-head, tail_lacks}
-use Rattle.calc_chain.proofs.ListLaws.{differs, distinct_head, distinct_more, distinct_none, distinct_tail, flipped, itself, same_number, same_test}
+use Rattle.calc_chain.proofs.ListLaws.{differs, distinct_head, distinct_more, distinct_none, distinct_tail, same_number, same_test}
 
 -- ---- numbers from one on
 
@@ -111,8 +110,9 @@ pub behind-entry : (n p l : ℕ → ℕ) (a low : ℕ) (xs : List ℕ) (b high y
 behind-entry n p l a low [] b high y k h d lb t = absurd (cc)
 behind-entry n p l a low (w ∷ ws) b high y k h d lb t =
     ⊎_elim
-    (λ same. let is : w ≡ y = sym (same_number y w same) in
-      (ws, record {
+    (λ same. let is : w ≡ y = sym (same_number y w same) in (
+      ws,
+      record {
         linked = subst (λ m. AreLinked n p m ws b) is k.1;
         rising = subst (λ m. Rise l (l m) ws high) is h.1;
         once = distinct_tail w ws d;
@@ -120,10 +120,12 @@ behind-entry n p l a low (w ∷ ws) b high y k h d lb t =
         alone = subst (λ m. has ws m ≡ false) is (distinct_head w ws d);
         shorter = omega arith;
         among = λ q u. later w ws q u;
-      }))
+      },
+    ))
     (λ rest. let i = behind-entry n p l w (l w) ws b high y k.1 h.1 (distinct_tail w ws d) (tail_lacks w ws b lb) rest in
-      let less = i.1.shorter in
-      (i.0, record {
+    let less = i.1.shorter in (
+      i.0,
+      record {
         linked = i.1.linked;
         rising = i.1.rising;
         once = i.1.once;
@@ -131,7 +133,8 @@ behind-entry n p l a low (w ∷ ws) b high y k h d lb t =
         alone = i.1.alone;
         shorter = omega (arith, less);
         among = λ q u. later w ws q (i.1.among q u);
-      }))
+      },
+    ))
     (or_cases (nat_eq y w) (has ws y) t)
 
 -- ---- new labels
@@ -149,14 +152,16 @@ rise-crowd n p l l' (suc c) x low step m [] b high k d lb off pos new last next 
 rise-crowd n p l l' (suc c) x low step m (z ∷ zs) b high k d lb off pos new last next others h =
     let at : n x ≡ z = k.0.0 in
     let mine = new 0 (omega arith) in
-    let first : l' z ≡ low + step = ap l' (sym at) ∙ mine ∙ one low step in
-    (omega (arith, first, pos), subst (λ i. Rise l' i zs high) (sym first)
-    (rise-crowd n p l l' c z (low + step) step (l z) zs b high k.1 (distinct_tail z zs d) (tail_lacks z zs b lb) (off_tail n c x b z at off) pos
-    (λ j below. ap (λ i. l' (nth n j (n i))) (sym at) ∙ new (suc j) (omega (arith, below)) ∙ more low step j)
-    (λ is. subst (λ i. i < high) (more low step c) (last (ap (λ i. nth n c (n i)) at ∙ is)))
-    (λ apart. subst (λ i. i ≤ l (nth n c (n z))) (more low step c) (subst (λ i. low + (suc c + 1) * step ≤ l (nth n c (n i))) at (next (λ is. apart (ap (λ i. nth n c (n i)) (sym at) ∙ is)))))
-    (λ q t outside. others q (later z zs q t) (ap (λ i. nat_eq q i || has (walk n c (n i)) q) at ∙ ap (λ e. e || has (walk n c (n z)) q) (differs q z (away zs q z t (distinct_head z zs d))) ∙ outside))
-    h.1))
+    let first : l' z ≡ low + step = ap l' (sym at) ∙ mine ∙ one low step in (
+      omega (arith, first, pos),
+      subst (λ i. Rise l' i zs high) (sym first)
+          (rise-crowd n p l l' c z (low + step) step (l z) zs b high k.1 (distinct_tail z zs d) (tail_lacks z zs b lb) (off_tail n c x b z at off) pos
+          (λ j below. ap (λ i. l' (nth n j (n i))) (sym at) ∙ new (suc j) (omega (arith, below)) ∙ more low step j)
+          (λ is. subst (λ i. i < high) (more low step c) (last (ap (λ i. nth n c (n i)) at ∙ is)))
+          (λ apart. subst (λ i. i ≤ l (nth n c (n z))) (more low step c) (subst (λ i. low + (suc c + 1) * step ≤ l (nth n c (n i))) at (next (λ is. apart (ap (λ i. nth n c (n i)) (sym at) ∙ is)))))
+          (λ q t outside. others q (later z zs q t) (ap (λ i. nat_eq q i || has (walk n c (n i)) q) at ∙ ap (λ e. e || has (walk n c (n z)) q) (differs q z (away zs q z t (distinct_head z zs d))) ∙ outside))
+          h.1),
+    )
   where
     one : (a s : ℕ) → a + (0 + 1) * s ≡ a + s
     one a s = omega arith
@@ -184,16 +189,16 @@ rise-relabel n p l l' a low [] b high y c step k d lb t off pos new last next ot
 rise-relabel n p l l' a low (w ∷ ws) b high y c step k d lb t off pos new last next others h =
     ⊎_elim
     (λ same.
-      let is : y ≡ w = same_number y w same in
-      let link : AreLinked n p y ws b = subst (λ m. AreLinked n p m ws b) (sym is) k.1 in
-      let kept : l' w ≡ l w = others w (not_among _ (has ws w) (crowd-in n p c y ws b w link off) (distinct_head w ws d)) in
-      let i = h.0 in
-      let tail : Rise l' (l y) ws high = rise-crowd n p l l' c y (l y) step (l w) ws b high link (distinct_tail w ws d) (tail_lacks w ws b lb) off pos new last next (λ q u outside. others q outside) h.1 in
-      (omega (arith, i, kept), subst (λ m. Rise l' m ws high) (ap l is ∙ sym kept) tail))
+    let is : y ≡ w = same_number y w same in
+    let link : AreLinked n p y ws b = subst (λ m. AreLinked n p m ws b) (sym is) k.1 in
+    let kept : l' w ≡ l w = others w (not_among _ (has ws w) (crowd-in n p c y ws b w link off) (distinct_head w ws d)) in
+    let i = h.0 in
+    let tail : Rise l' (l y) ws high = rise-crowd n p l l' c y (l y) step (l w) ws b high link (distinct_tail w ws d) (tail_lacks w ws b lb) off pos new last next (λ q u outside. others q outside) h.1 in
+    (omega (arith, i, kept), subst (λ m. Rise l' m ws high) (ap l is ∙ sym kept) tail))
     (λ rest.
-      let kept : l' w ≡ l w = others w (not_among _ (has ws w) (crowd-among n p c w ws b y w k.1 rest off) (distinct_head w ws d)) in
-      let i = h.0 in
-      (omega (arith, i, kept), subst (λ m. Rise l' m ws high) (sym kept) (rise-relabel n p l l' w (l w) ws b high y c step k.1 (distinct_tail w ws d) (tail_lacks w ws b lb) rest off pos new last next others h.1)))
+    let kept : l' w ≡ l w = others w (not_among _ (has ws w) (crowd-among n p c w ws b y w k.1 rest off) (distinct_head w ws d)) in
+    let i = h.0 in
+    (omega (arith, i, kept), subst (λ m. Rise l' m ws high) (sym kept) (rise-relabel n p l l' w (l w) ws b high y c step k.1 (distinct_tail w ws d) (tail_lacks w ws b lb) rest off pos new last next others h.1)))
     (or_cases (nat_eq y w) (has ws y) t)
 
 -- one more number is passed

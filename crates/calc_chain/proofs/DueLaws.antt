@@ -1,5 +1,5 @@
 -- Which entries are due once one was passed or taken out, or others were made due.
-use Rattle.std.proofs.Common.{◌≡◌, ◌≢◌, ℕ, zero, suc, ◌+◌, ◌<◌, ◌≤◌, Bool, true, false, not, cond, ◌||◌, ◌&&◌, ◌==◌, Option, None, Some, List, [], ◌∷◌, ◌++◌, length, take, drop, get_or, set, get_or-set_same, get_or-set_other, refl, ap, sym, subst, ◌∙◌, arith}
+use Rattle.std.proofs.Common.{◌≡◌, ◌≢◌, ℕ, zero, suc, ◌+◌, ◌<◌, ◌≤◌, Bool, true, false, not, cond, ◌||◌, ◌&&◌, ◌==◌, Some, List, [], ◌∷◌, length, take, drop, get_or, set, get_or-set_same, get_or-set_other, refl, ap, sym, ◌∙◌, arith}
 use Rattle.std.specs.List.{IsDistinct, filter}
 use Rattle.std.specs.Prelude.{nat_eq}
 use Rattle.std.specs.Cmp.{nat_eq_equiv}
@@ -7,9 +7,9 @@ use Rattle.std.proofs.Math.ListN.{get_or-eq_default}
 use Rattle.std.proofs.Math.Seq.{drop-cons}
 use Rattle.std.proofs.lemmas.List.Folds.{list_any_more}
 use Rattle.std.proofs.lemmas.Map.Made.{length-le_from_is_member}
-use Rattle.calc_chain.specs.Chain.{behind_first, entries_among, first_of, has, without}
+use Rattle.calc_chain.specs.Chain.{behind_first, first_of, has, without}
 use Rattle.calc_chain.specs.Due.{due_in}
-use Rattle.calc_chain.proofs.ListLaws.{differs, filter-alike, has-filter, itself, same_number}
+use Rattle.calc_chain.proofs.ListLaws.{filter-alike, has-filter, itself, same_number}
 use Rattle.calc_chain.proofs.OrderLaws.{without_none}
 
 -- one more number is flagged

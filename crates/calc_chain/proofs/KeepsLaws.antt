@@ -1,8 +1,7 @@
 -- What the slots keep once an entry was taken out or put in, or has another label.
-use Rattle.std.proofs.Common.{◌≡◌, ◌≢◌, ℕ, zero, suc, ◌+◌, ◌*◌, ◌<◌, ◌≤◌, ◌^◌, Bool, true, false, not, cond, ◌||◌, ◌&&◌, ◌==◌, List, [], ◌∷◌, ◌++◌, ◌⊎◌, length, get_or, ⊎_elim, inl, inr, refl, ap, sym, subst, ◌∙◌, arith}
+use Rattle.std.proofs.Common.{◌≡◌, ◌≢◌, ℕ, ◌<◌, ◌≤◌, ◌^◌, Bool, true, false, not, ◌||◌, ◌&&◌, ◌==◌, List, [], ◌∷◌, ◌++◌, length, ⊎_elim, refl, ap, sym, subst, ◌∙◌, arith}
 use Rattle.std.specs.List.{IsDistinct, filter}
 use Rattle.std.specs.Prelude.{nat_eq, nat_lt, if◌then◌else◌, slice_index_or}
-use Rattle.std.proofs.lemmas.Bool.{or_cases, or_left, or_right, or_parts}
 use Rattle.std.proofs.lemmas.Bool.Decides.{nat_tests}
 use Rattle.std.proofs.Math.ListN.{get_or-eq_default}
 use Rattle.std.proofs.lemmas.Map.Steps.{length-le_from_distinct_below}
@@ -10,10 +9,10 @@ use Rattle.calc_chain.specs.Chain.{has, without}
 use Rattle.calc_chain.specs.declared.slots.Slot.{Slot}
 use Rattle.calc_chain.specs.declared.slots.Slots.{Slots}
 use Rattle.calc_chain.specs.declared.slots.TheConstants.{END}
-use Rattle.calc_chain.specs.Linking.{AreLinked, Fits, Keeps, Rise, after_of, before_of, first_slot, free_slot, label_of, put_behind, slot_at, walk}
-use Rattle.calc_chain.proofs.LabelLaws.{less_false, less_true, rise-between, rise-filter, rise-put, rise-same}
-use Rattle.calc_chain.proofs.LinkLaws.{away, head_apart, here, last-in, later, linked-one, linked-same, next-in, prev-in, put-last, put-linked, tail_lacks, unlinked, walk-linked}
-use Rattle.calc_chain.proofs.ListLaws.{differs, distinct_filter, distinct_head, distinct_more, distinct_none, distinct_tail, flipped, has-filter, itself, same_number, same_test}
+use Rattle.calc_chain.specs.Linking.{Fits, Keeps, after_of, before_of, first_slot, free_slot, label_of, put_behind, slot_at, walk}
+use Rattle.calc_chain.proofs.LabelLaws.{less_false, less_true, rise-filter, rise-put, rise-same}
+use Rattle.calc_chain.proofs.LinkLaws.{away, head_apart, last-in, linked-one, linked-same, next-in, prev-in, put-last, put-linked, tail_lacks, unlinked, walk-linked}
+use Rattle.calc_chain.proofs.ListLaws.{differs, distinct_filter, distinct_head, distinct_more, distinct_none, distinct_tail, has-filter, itself}
 
 if_no : (b : Bool) (v w : ℕ) → b ≡ false → (if b then v else w) ≡ w
 if_no true v w h = cc

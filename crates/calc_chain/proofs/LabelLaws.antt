@@ -1,13 +1,13 @@
 -- Labels that rise along an order.
-use Rattle.std.proofs.Common.{◌≡◌, ◌≢◌, ℕ, zero, suc, ◌+◌, ◌*◌, ◌<◌, ◌≤◌, Bool, true, false, not, cond, ◌||◌, ◌&&◌, ◌==◌, List, [], ◌∷◌, ◌++◌, ◌⊎◌, length, ⊎_elim, inl, inr, refl, ap, sym, subst, ◌∙◌, arith}
+use Rattle.std.proofs.Common.{◌≡◌, ◌≢◌, ℕ, suc, ◌+◌, ◌<◌, ◌≤◌, Bool, true, false, not, cond, ◌||◌, ◌==◌, List, [], ◌∷◌, ◌++◌, ⊎_elim, refl, ap, sym, subst, ◌∙◌, arith}
 use Rattle.std.specs.List.{IsDistinct, filter}
 use Rattle.std.specs.Prelude.{nat_eq, nat_lt, if◌then◌else◌}
-use Rattle.std.proofs.lemmas.Bool.{or_cases, or_left, or_right, or_parts}
+use Rattle.std.proofs.lemmas.Bool.{or_cases}
 use Rattle.std.proofs.lemmas.Bool.Decides.{nat_tests}
-use Rattle.calc_chain.specs.Chain.{has, is_behind, place_of, without}
-use Rattle.calc_chain.specs.Linking.{AreLinked, Rise, put_behind, walk}
+use Rattle.calc_chain.specs.Chain.{has, is_behind, place_of}
+use Rattle.calc_chain.specs.Linking.{AreLinked, Rise, put_behind}
 use Rattle.calc_chain.proofs.LinkLaws.{away, head_apart, here, later, tail_lacks}
-use Rattle.calc_chain.proofs.ListLaws.{differs, distinct_head, distinct_tail, flipped, itself, same_number, same_test}
+use Rattle.calc_chain.proofs.ListLaws.{differs, distinct_tail, flipped, itself, same_number}
 
 if_no : (b : Bool) (v w : ℕ) → b ≡ false → (if b then v else w) ≡ w
 if_no true v w h = cc
@@ -74,17 +74,19 @@ rise-put n p l l' a low (w ∷ ws) b high y x v k d lb t new labels above last n
     let other : (q : ℕ) → has (w ∷ ws) q ≡ true → l' q ≡ l q = λ q u. labels q ∙ if_no (nat_eq q x) v (l q) (differs q x (away (w ∷ ws) q x u new)) in
     let mine : l' w ≡ l w = other w (here w ws) in
     let fresh : l' x ≡ v = labels x ∙ if_yes (nat_eq x x) v (l x) (itself x) in
-    let i = h.0 in
-    (omega (arith, mine, i), elim (nat_eq w y) as (λ c. nat_eq w y ≡ c → Rise l' (l' w) (if c then x ∷ ws else put_behind ws y x) high) [
-      | true ↦ λ e.
-          let is : w ≡ y = same_number w y e in
-          let label = ap l is in
-          (omega (arith, mine, label, fresh, above), subst (λ m. Rise l' m ws high) (sym fresh) (behind ws is k.1 h.1 lb other))
-      | false ↦ λ e.
-          let rest : has ws y ≡ true = or_second (nat_eq y w) (has ws y) t (flipped y w ∙ e) in
-          subst (λ m. Rise l' m (put_behind ws y x) high) (sym mine)
-          (rise-put n p l l' w (l w) ws b high y x v k.1 (distinct_tail w ws d) (tail_lacks w ws b lb) rest (tail_lacks w ws x new) labels above last next h.1)
-    ] refl)
+    let i = h.0 in (
+      omega (arith, mine, i),
+      elim (nat_eq w y) as (λ c. nat_eq w y ≡ c → Rise l' (l' w) (if c then x ∷ ws else put_behind ws y x) high) [
+        | true ↦ λ e.
+            let is : w ≡ y = same_number w y e in
+            let label = ap l is in
+            (omega (arith, mine, label, fresh, above), subst (λ m. Rise l' m ws high) (sym fresh) (behind ws is k.1 h.1 lb other))
+        | false ↦ λ e.
+            let rest : has ws y ≡ true = or_second (nat_eq y w) (has ws y) t (flipped y w ∙ e) in
+            subst (λ m. Rise l' m (put_behind ws y x) high) (sym mine)
+            (rise-put n p l l' w (l w) ws b high y x v k.1 (distinct_tail w ws d) (tail_lacks w ws b lb) rest (tail_lacks w ws x new) labels above last next h.1)
+      ] refl,
+    )
   where
     or_second : (c e : Bool) → (c || e) ≡ true → c ≡ false → e ≡ true
     or_second true e h k = cc

@@ -121,30 +121,32 @@ pub put-linked : (n n' p p' : ℕ → ℕ) (a : ℕ) (xs : List ℕ) (b y x : �
 put-linked n n' p p' a [] b y x d la lb t new xa xb nexts prevs h = absurd (cc)
 put-linked n n' p p' a (w ∷ ws) b y x d la lb t new xa xb nexts prevs h =
     let there : (has ws (n y) ≡ true) ⊎ (n y ≡ b) = ⊎_elim
-        (λ same. subst (λ m. (has ws (n m) ≡ true) ⊎ (n m ≡ b)) (sym (same_number y w same)) (next-head n p w ws b h.1))
-        (λ rest. next-in n p w ws b h.1 y rest)
-        (or_cases (nat_eq y w) (has ws y) t)
+    (λ same. subst (λ m. (has ws (n m) ≡ true) ⊎ (n m ≡ b)) (sym (same_number y w same)) (next-head n p w ws b h.1))
+    (λ rest. next-in n p w ws b h.1 y rest)
+    (or_cases (nat_eq y w) (has ws y) t)
     in
     let wz : w ≢ n y = λ same. ⊎_elim (λ i. away ws (n y) w i (distinct_head w ws d) (sym same)) (λ i. head_apart w ws b lb (sym (same ∙ i))) there in
     let xw : x ≢ w = head_apart w ws x new in
     let first : n' a ≡ w = nexts a ∙ if_no (nat_eq a x) _ _ (differs a x (λ i. xa (sym i))) ∙ if_no (nat_eq a y) _ _ (differs a y (λ i. away (w ∷ ws) y a t la (sym i))) ∙ h.0.0 in
-    let back : p' w ≡ a = prevs w ∙ if_no (nat_eq w (n y)) _ _ (differs w (n y) wz) ∙ if_no (nat_eq w x) _ _ (differs w x (λ i. xw (sym i))) ∙ h.0.1 in
-    ((first, back), elim (nat_eq w y) as (λ c. nat_eq w y ≡ c → AreLinked n' p' w (if c then x ∷ ws else put_behind ws y x) b) [
-      | true ↦ λ e.
-          let is : w ≡ y = same_number w y e in
-          let xz : x ≢ n y = λ same. ⊎_elim (λ i. away ws (n y) x i (tail_lacks w ws x new) (sym same)) (λ i. xb (same ∙ i)) there in
-          let link : n' x ≡ n w = nexts x ∙ if_yes (nat_eq x x) _ _ (itself x) ∙ ap n (sym is) in
-          let mine : p' (n w) ≡ x = ap (λ m. p' (n m)) is ∙ prevs (n y) ∙ if_yes (nat_eq (n y) (n y)) _ _ (itself (n y)) in (
-            (nexts w ∙ if_no (nat_eq w x) _ _ (differs w x (λ i. xw (sym i))) ∙ if_yes (nat_eq w y) _ _ e, prevs x ∙ if_no (nat_eq x (n y)) _ _ (differs x (n y) xz) ∙ if_yes (nat_eq x x) _ _ (itself x) ∙ sym is),
-            bypass n n' p p' w x ws b h.1 (distinct_tail w ws d) (tail_lacks w ws b lb) link mine
-                (λ q u. nexts q ∙ if_no (nat_eq q x) _ _ (differs q x (away ws q x u (tail_lacks w ws x new))) ∙ if_no (nat_eq q y) _ _ (differs q y (λ i. away ws q w u (distinct_head w ws d) (i ∙ sym is))))
-                (λ q u apart. prevs q ∙ if_no (nat_eq q (n y)) _ _ (differs q (n y) (λ i. apart (i ∙ ap n (sym is)))) ∙ if_no (nat_eq q x) _ _ (differs q x (away ws q x u (tail_lacks w ws x new))))
-                (λ apart. prevs b ∙ if_no (nat_eq b (n y)) _ _ (differs b (n y) (λ i. apart (i ∙ ap n (sym is)))) ∙ if_no (nat_eq b x) _ _ (differs b x (λ i. xb (sym i)))),
-          )
-      | false ↦ λ e.
-          let rest : has ws y ≡ true = or_second (nat_eq y w) (has ws y) t (flipped y w ∙ e) in
-          put-linked n n' p p' w ws b y x (distinct_tail w ws d) (distinct_head w ws d) (tail_lacks w ws b lb) rest (tail_lacks w ws x new) xw xb nexts prevs h.1
-    ] refl)
+    let back : p' w ≡ a = prevs w ∙ if_no (nat_eq w (n y)) _ _ (differs w (n y) wz) ∙ if_no (nat_eq w x) _ _ (differs w x (λ i. xw (sym i))) ∙ h.0.1 in (
+      (first, back),
+      elim (nat_eq w y) as (λ c. nat_eq w y ≡ c → AreLinked n' p' w (if c then x ∷ ws else put_behind ws y x) b) [
+        | true ↦ λ e.
+            let is : w ≡ y = same_number w y e in
+            let xz : x ≢ n y = λ same. ⊎_elim (λ i. away ws (n y) x i (tail_lacks w ws x new) (sym same)) (λ i. xb (same ∙ i)) there in
+            let link : n' x ≡ n w = nexts x ∙ if_yes (nat_eq x x) _ _ (itself x) ∙ ap n (sym is) in
+            let mine : p' (n w) ≡ x = ap (λ m. p' (n m)) is ∙ prevs (n y) ∙ if_yes (nat_eq (n y) (n y)) _ _ (itself (n y)) in (
+              (nexts w ∙ if_no (nat_eq w x) _ _ (differs w x (λ i. xw (sym i))) ∙ if_yes (nat_eq w y) _ _ e, prevs x ∙ if_no (nat_eq x (n y)) _ _ (differs x (n y) xz) ∙ if_yes (nat_eq x x) _ _ (itself x) ∙ sym is),
+              bypass n n' p p' w x ws b h.1 (distinct_tail w ws d) (tail_lacks w ws b lb) link mine
+                  (λ q u. nexts q ∙ if_no (nat_eq q x) _ _ (differs q x (away ws q x u (tail_lacks w ws x new))) ∙ if_no (nat_eq q y) _ _ (differs q y (λ i. away ws q w u (distinct_head w ws d) (i ∙ sym is))))
+                  (λ q u apart. prevs q ∙ if_no (nat_eq q (n y)) _ _ (differs q (n y) (λ i. apart (i ∙ ap n (sym is)))) ∙ if_no (nat_eq q x) _ _ (differs q x (away ws q x u (tail_lacks w ws x new))))
+                  (λ apart. prevs b ∙ if_no (nat_eq b (n y)) _ _ (differs b (n y) (λ i. apart (i ∙ ap n (sym is)))) ∙ if_no (nat_eq b x) _ _ (differs b x (λ i. xb (sym i)))),
+            )
+        | false ↦ λ e.
+            let rest : has ws y ≡ true = or_second (nat_eq y w) (has ws y) t (flipped y w ∙ e) in
+            put-linked n n' p p' w ws b y x (distinct_tail w ws d) (distinct_head w ws d) (tail_lacks w ws b lb) rest (tail_lacks w ws x new) xw xb nexts prevs h.1
+      ] refl,
+    )
   where
     or_second : (c e : Bool) → (c || e) ≡ true → c ≡ false → e ≡ true
     or_second true e h k = cc

@@ -1,15 +1,14 @@
 -- What a linked order shows once an entry was put in, taken out or moved, and entries put into order.
-use Rattle.std.proofs.Common.{◌≡◌, ◌≢◌, ℕ, zero, suc, ◌+◌, ◌<◌, ◌≤◌, ◌-◌, ◌^◌, Bool, true, false, not, cond, ◌||◌, ◌&&◌, ◌==◌, List, [], ◌∷◌, ◌++◌, ◌⊎◌, length, get_or, ⊎_elim, inl, inr, refl, ap, sym, subst, ◌∙◌, arith}
+use Rattle.std.proofs.Common.{◌≡◌, ℕ, suc, ◌+◌, ◌<◌, ◌≤◌, Bool, true, false, not, cond, ◌||◌, ◌==◌, List, [], ◌∷◌, ◌++◌, length, get_or, ⊎_elim, refl, ap, sym, subst, ◌∙◌, arith}
 use Rattle.std.specs.List.{IsDistinct, filter}
-use Rattle.std.specs.List.Sorted.{IsNonDecreasingBy, IsPermutation}
-use Rattle.std.specs.Prelude.{insert, nat_eq, nat_lt, if◌then◌else◌}
-use Rattle.std.proofs.lemmas.Bool.{or_cases, or_left, or_right, or_parts}
-use Rattle.std.proofs.lemmas.Bool.Decides.{nat_tests}
-use Rattle.calc_chain.specs.Chain.{entries_among, has, place_of, without}
+use Rattle.std.specs.List.Sorted.{IsNonDecreasingBy}
+use Rattle.std.specs.Prelude.{insert, nat_eq, if◌then◌else◌}
+use Rattle.std.proofs.lemmas.Bool.{or_cases, or_left, or_parts}
+use Rattle.calc_chain.specs.Chain.{has, place_of, without}
 use Rattle.calc_chain.specs.Linking.{Rise, put_behind}
 use Rattle.calc_chain.proofs.LabelLaws.{rise-between}
-use Rattle.calc_chain.proofs.LinkLaws.{away, head_apart, here, later, tail_lacks}
-use Rattle.calc_chain.proofs.ListLaws.{differs, distinct_head, distinct_tail, filter-alike, flipped, itself, same_number, same_test}
+use Rattle.calc_chain.proofs.LinkLaws.{away, here, later, tail_lacks}
+use Rattle.calc_chain.proofs.ListLaws.{differs, distinct_head, distinct_tail, filter-alike, flipped, same_number}
 
 or_second : (c e : Bool) → (c || e) ≡ true → c ≡ false → e ≡ true
 or_second true e h k = cc
@@ -98,7 +97,7 @@ sorted_among l low (x ∷ xs) high (n ∷ ns) h dx s dn inside = elim (nat_eq x 
       let is : x ≡ n = same_number x n e in
       let gone : has xs n ≡ false = subst (λ m. has xs m ≡ false) is (distinct_head x xs dx) in
       let rest : (q : ℕ) → has ns q ≡ true → has xs q ≡ true = λ q t.
-          or_second (nat_eq q x) (has xs q) (inside q (later n ns q t)) (differs q x (λ same. away ns q n t (distinct_head n ns dn) (same ∙ is)))
+      or_second (nat_eq q x) (has xs q) (inside q (later n ns q t)) (differs q x (λ same. away ns q n t (distinct_head n ns dn) (same ∙ is)))
       in
       ap (λ b. cond b (x ∷ filter (has (n ∷ ns)) xs) (filter (has (n ∷ ns)) xs)) (or_left (nat_eq x n) (has ns x) e)
       ∙ ap (λ ys. x ∷ ys) (filter-alike (has (n ∷ ns)) (has ns) xs (λ y t. ap (λ b. b || has ns y) (differs y n (away xs y n t gone))) ∙ sorted_among l (l x) xs high ns h.1 (distinct_tail x xs dx) s.1 (distinct_tail n ns dn) rest)

@@ -1,5 +1,5 @@
 -- What the slots keep once entries have new labels.
-use Rattle.std.proofs.Common.{◌≡◌, ◌≢◌, ℕ, zero, suc, ◌+◌, ◌-◌, ◌*◌, ◌<◌, ◌≤◌, ◌^◌, Bool, true, false, ◌||◌, ◌==◌, List, [], ◌∷◌, ◌++◌, ◌⊎◌, length, ⊎_elim, inl, inr, refl, ap, sym, subst, ◌∙◌, arith}
+use Rattle.std.proofs.Common.{◌≡◌, ◌≢◌, ℕ, zero, suc, ◌+◌, ◌-◌, ◌*◌, ◌<◌, ◌≤◌, ◌^◌, Bool, true, false, List, length, ⊎_elim, refl, ap, sym, subst, ◌∙◌, arith}
 use Rattle.std.specs.List.{IsDistinct}
 use Rattle.std.specs.Prelude.{nat_eq, nat_lt, if◌then◌else◌}
 use Rattle.std.proofs.lemmas.Bool.Decides.{nat_tests}
@@ -9,10 +9,10 @@ use Rattle.calc_chain.specs.declared.slots.Slots.{Slots}
 use Rattle.calc_chain.specs.declared.slots.TheConstants.{END}
 use Rattle.calc_chain.specs.Linking.{AreLinked, Fits, HasRoomBehind, IsCrowd, IsStep, Keeps, KeepsLinks, Relabels, after_of, before_of, label_of, nth, walk}
 use Rattle.calc_chain.proofs.CrowdLaws.{Behind, behind-entry, crowd-among, crowd-distinct, crowd-few, crowd-in, crowd-next, has-walk, meets, not_among, nth-apart, nth-end, nth-next, rise-crowd, rise-relabel, walk-index, walk-lacks, walk-longer}
-use Rattle.calc_chain.proofs.KeepsLaws.{entries_few, entry_apart, entry_fits}
+use Rattle.calc_chain.proofs.KeepsLaws.{entries_few, entry_fits}
 use Rattle.calc_chain.proofs.LabelLaws.{less_true, rise-between}
 use Rattle.calc_chain.proofs.LinkLaws.{away, linked-same, walk-linked}
-use Rattle.calc_chain.proofs.ListLaws.{differs, itself, same_number, same_test}
+use Rattle.calc_chain.proofs.ListLaws.{differs, same_number, same_test}
 
 same_links : (s s' : Slots) → KeepsLinks s s' → (xs : List ℕ) → AreLinked (after_of s) (before_of s) END xs END → AreLinked (after_of s') (before_of s') END xs END
 same_links s s' same xs h = linked-same (after_of s) (after_of s') (before_of s) (before_of s') END xs END (same.after END) (λ q _. same.after q) (λ q _. same.before q) (same.before END) h
@@ -192,7 +192,6 @@ relabels_more s mid new first c k low step next label d below before at is links
     if_yes true v w h = refl
     if_yes false v w h = cc
 
-
 -- ---- how far a crowd goes
 
 pub crowd_found : (s : Slots) (xs : List ℕ) (y c next low label step : ℕ) → Keeps s xs → has xs y ≡ true → has (walk (after_of s) c (after_of s y)) END ≡ false → next ≡ nth (after_of s) c (after_of s y) → next ≢ END
@@ -236,8 +235,8 @@ crowd_within s xs y c step keeps h crowd =
     let next = nth (after_of s) c (after_of s y) in
     ⊎_elim
     (λ t.
-      let below = (rise-between (label_of s) (label_of s y) ws.0 (2 ^ 64) next ws.1.rising t).1 in
-      let under = crowd.next (away ws.0 next END t ws.1.lacks) in
-      omega (arith, below, under))
+    let below = (rise-between (label_of s) (label_of s y) ws.0 (2 ^ 64) next ws.1.rising t).1 in
+    let under = crowd.next (away ws.0 next END t ws.1.lacks) in
+    omega (arith, below, under))
     (λ is. let under = crowd.last is in omega (arith, under))
     (crowd-next (after_of s) (before_of s) c y ws.0 END ws.1.linked crowd.entries)

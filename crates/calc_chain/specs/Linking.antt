@@ -1,5 +1,5 @@
 -- For the crate's own functions: numbers that are linked in an order, with labels that rise along it.
-use Rattle.std.specs.Prelude.{◌≡◌, ◌≢◌, ℕ, zero, suc, ◌+◌, ◌*◌, ◌<◌, ◌≤◌, ◌^◌, ◌==◌, nat_eq, nat_lt, Bool, if◌then◌else◌, List, [], ◌∷◌, false, length, slice_index_or}
+use Rattle.std.specs.Prelude.{◌≡◌, ◌≢◌, ℕ, zero, suc, ◌+◌, ◌*◌, ◌<◌, ◌≤◌, ◌^◌, nat_eq, nat_lt, if◌then◌else◌, List, [], ◌∷◌, false, length, slice_index_or}
 use Rattle.std.specs.List.{IsDistinct}
 use Rattle.calc_chain.specs.Chain.{has}
 use Rattle.calc_chain.specs.declared.slots.Slot.{Slot}

@@ -108,7 +108,13 @@ impl Slots {
         let first = self.at(a);
         self.put(a, Slot { after: b, ..first });
         let second = self.at(b);
-        self.put(b, Slot { before: a, ..second });
+        self.put(
+            b,
+            Slot {
+                before: a,
+                ..second
+            },
+        );
     }
 
     /// Gives a number this label.

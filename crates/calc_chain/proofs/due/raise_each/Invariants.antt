@@ -1,4 +1,4 @@
-use Rattle.std.proofs.Common.{◌≡◌, ◌<◌, ℕ, true, false, length, take}
+use Rattle.std.proofs.Common.{◌≡◌, ℕ, true, false, length, take}
 use Rattle.std.specs.Prelude.{slice_index_or}
 use Rattle.calc_chain.specs.Chain.{has}
 use Rattle.calc_chain.proofs.due.raise_each.Given as goal

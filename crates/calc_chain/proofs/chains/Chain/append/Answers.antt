@@ -1,4 +1,4 @@
-use Rattle.std.proofs.Common.{◌≡◌, ℕ, List, [], ◌∷◌, ◌++◌, true, false, arith, refl, ap, length, subst, sym, ◌∙◌, ⊎_elim}
+use Rattle.std.proofs.Common.{◌≡◌, [], ◌∷◌, ◌++◌, true, false, arith, ap, length, subst, sym, ⊎_elim}
 use Rattle.calc_chain.specs.Chain.{Order, has}
 use Rattle.calc_chain.specs.Due.{due_of}
 use Rattle.calc_chain.proofs.ChainLaws.{chain-append, chain-same, has-push}

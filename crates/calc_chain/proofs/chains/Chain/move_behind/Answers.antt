@@ -1,4 +1,4 @@
-use Rattle.std.proofs.Common.{◌≡◌, ℕ, true, false, length, arith, refl, ap, subst, sym, ◌∙◌}
+use Rattle.std.proofs.Common.{◌≡◌, true, false, length, arith, refl, ap, subst, sym}
 use Rattle.calc_chain.specs.Chain.{Order, has}
 use Rattle.calc_chain.specs.Due.{due_of}
 use Rattle.calc_chain.proofs.ChainLaws.{chain-moved, chain-same, moved-has, moved-length}

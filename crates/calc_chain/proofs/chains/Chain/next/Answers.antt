@@ -1,5 +1,4 @@
-use Rattle.std.proofs.Common.{◌≡◌, ℕ, true, arith, refl}
-use Rattle.calc_chain.specs.Chain.{has}
+use Rattle.std.proofs.Common.{arith, refl}
 use Rattle.calc_chain.specs.Due.{due_of}
 use Rattle.calc_chain.proofs.ChainLaws.{chain-next, chain-same}
 use Rattle.calc_chain.proofs.chains.Chain.next.Goals as goal

@@ -1,4 +1,4 @@
-use Rattle.std.proofs.Common.{◌≡◌, ℕ, true, not, ◌==◌, length, arith, ap, subst}
+use Rattle.std.proofs.Common.{◌≡◌, true, not, ◌==◌, length, arith, ap, subst}
 use Rattle.calc_chain.specs.Chain.{has}
 use Rattle.calc_chain.specs.Due.{due_of}
 use Rattle.calc_chain.proofs.ChainLaws.{chain-same, chain-without, has-without}

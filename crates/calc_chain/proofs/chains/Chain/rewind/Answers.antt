@@ -1,5 +1,5 @@
-use Rattle.std.proofs.Common.{◌≡◌, ℕ, true, arith, refl, subst, sym}
-use Rattle.calc_chain.specs.Chain.{Order, entries_among, has}
+use Rattle.std.proofs.Common.{◌≡◌, true, arith, refl, subst, sym}
+use Rattle.calc_chain.specs.Chain.{Order, has}
 use Rattle.calc_chain.specs.Due.{due_of}
 use Rattle.calc_chain.proofs.ChainLaws.{chain-among, chain-same}
 use Rattle.calc_chain.proofs.DueLaws.{due-fits}

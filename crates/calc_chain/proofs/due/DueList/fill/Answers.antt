@@ -1,4 +1,4 @@
-use Rattle.std.proofs.Common.{◌≡◌, ℕ, List, true, false, ap, subst, sym, ◌∙◌, rules}
+use Rattle.std.proofs.Common.{◌≡◌, ap, sym, ◌∙◌}
 use Rattle.calc_chain.specs.Chain.{entries_among, has}
 use Rattle.calc_chain.proofs.ChainLaws.{and_second}
 use Rattle.calc_chain.proofs.DueLaws.{due-all}

@@ -1,4 +1,4 @@
-use Rattle.std.proofs.Common.{drop, length, arith, ap, sym, ◌∙◌}
+use Rattle.std.proofs.Common.{drop, arith}
 use Rattle.calc_chain.proofs.DueLaws.{due-removed, due-strange}
 use Rattle.calc_chain.proofs.due.DueList.remove.Goals as goal
 

@@ -1,8 +1,7 @@
-use Rattle.std.proofs.Common.{◌≡◌, ◌≢◌, ◌+◌, ◌≤◌, ℕ, List, [], ◌∷◌, ◌++◌, true, false, length, ap, subst, sym, ◌∙◌, arith, rules}
-use Rattle.std.specs.Prelude.{OnErr}
+use Rattle.std.proofs.Common.{◌≡◌, ◌+◌, [], ◌∷◌, ◌++◌, false, ap, subst, sym, ◌∙◌, arith, rules}
 use Rattle.calc_chain.specs.Chain.{has}
 use Rattle.calc_chain.specs.declared.slots.TheConstants.{END}
-use Rattle.calc_chain.specs.Linking.{Keeps, after_of, slot_at, walk}
+use Rattle.calc_chain.specs.Linking.{Keeps, after_of, walk}
 use Rattle.calc_chain.proofs.KeepsLaws.{entries_few, entries_listed, keeps_same}
 use Rattle.calc_chain.proofs.LinkLaws.{length-walk}
 use Rattle.calc_chain.proofs.OrderLaws.{push_length}
@@ -25,10 +24,12 @@ returns-in_err-make_room-clause-refused c =
 
 pub append-requires-clause-kept : goal.append-requires-clause-kept
 append-requires-clause-kept c =
-    let xs = walk (after_of c.self.inside.slots) c.self.inside.count (after_of c.self.inside.slots END) in
-    (xs, keeps_same c.self.inside.slots c.make_room.new.self xs c.self.invariant c.make_room.ensures.same (c.make_room.ensures.size c.self.invariant.small),
-    subst (λ ys. has ys c.args.x ≡ false) (sym c.self.view_is) c.requires.new,
-    length-walk (after_of c.self.inside.slots) c.self.inside.count (after_of c.self.inside.slots END))
+    let xs = walk (after_of c.self.inside.slots) c.self.inside.count (after_of c.self.inside.slots END) in (
+      xs,
+      keeps_same c.self.inside.slots c.make_room.new.self xs c.self.invariant c.make_room.ensures.same (c.make_room.ensures.size c.self.invariant.small),
+      subst (λ ys. has ys c.args.x ≡ false) (sym c.self.view_is) c.requires.new,
+      length-walk (after_of c.self.inside.slots) c.self.inside.count (after_of c.self.inside.slots END),
+    )
 
 pub overflow_add-self : goal.overflow_add-self
 overflow_add-self c =

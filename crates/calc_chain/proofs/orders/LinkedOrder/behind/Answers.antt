@@ -1,4 +1,4 @@
-use Rattle.std.proofs.Common.{◌≡◌, ◌^◌, ℕ, List, true, ap, subst, sym, ◌∙◌}
+use Rattle.std.proofs.Common.{◌≡◌, ◌^◌, true, ap, subst, sym, ◌∙◌}
 use Rattle.std.specs.Prelude.{nat_lt}
 use Rattle.calc_chain.specs.Chain.{has, is_behind}
 use Rattle.calc_chain.specs.declared.slots.Slot.{Slot}
@@ -13,5 +13,5 @@ returns c =
     ap (λ (slot : Slot). nat_lt slot.label c.at-2.result.label) c.at.ensures
     ∙ ap (λ (slot : Slot). nat_lt (label_of c.self.inside.slots c.args.y) slot.label) c.at-2.ensures
     ∙ rise-behind (label_of c.self.inside.slots) 0 xs (2 ^ 64) c.args.x c.args.y c.self.invariant.rising c.requires.apart
-        (subst (λ ys. has ys c.args.x ≡ true) (sym c.self.view_is) c.requires.first) (subst (λ ys. has ys c.args.y ≡ true) (sym c.self.view_is) c.requires.second)
+    (subst (λ ys. has ys c.args.x ≡ true) (sym c.self.view_is) c.requires.first) (subst (λ ys. has ys c.args.y ≡ true) (sym c.self.view_is) c.requires.second)
     ∙ ap (λ ys. is_behind ys c.args.x c.args.y) c.self.view_is

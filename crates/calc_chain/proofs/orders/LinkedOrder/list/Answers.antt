@@ -1,4 +1,4 @@
-use Rattle.std.proofs.Common.{◌≡◌, ◌+◌, ℕ, List, [], ◌∷◌, ◌++◌, ap, subst, sym, ◌∙◌, arith, length}
+use Rattle.std.proofs.Common.{[], ◌∷◌, ◌++◌, ap, sym, ◌∙◌, arith}
 use Rattle.calc_chain.specs.declared.slots.Slot.{Slot}
 use Rattle.calc_chain.specs.declared.slots.TheConstants.{END}
 use Rattle.calc_chain.specs.Linking.{after_of, nth, walk}

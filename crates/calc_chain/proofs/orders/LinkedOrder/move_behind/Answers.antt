@@ -1,4 +1,4 @@
-use Rattle.std.proofs.Common.{◌≡◌, ◌≢◌, ◌+◌, ◌-◌, ℕ, List, true, false, length, ap, subst, sym, ◌∙◌, arith}
+use Rattle.std.proofs.Common.{◌≡◌, true, ap, subst, sym, ◌∙◌, arith}
 use Rattle.calc_chain.specs.Chain.{has, moved_behind, without}
 use Rattle.calc_chain.specs.declared.slots.TheConstants.{END}
 use Rattle.calc_chain.specs.Linking.{Keeps, after_of, put_behind, walk}

@@ -1,4 +1,4 @@
-use Rattle.std.proofs.Common.{◌≡◌, ◌≢◌, ℕ, List, [], ◌∷◌, ◌++◌, false, true, length, ap, subst, sym, ◌∙◌, rules}
+use Rattle.std.proofs.Common.{◌≡◌, ◌≢◌, [], ◌∷◌, ◌++◌, true, ap, subst, sym, ◌∙◌}
 use Rattle.calc_chain.specs.Chain.{has}
 use Rattle.calc_chain.specs.declared.slots.Slot.{Slot}
 use Rattle.calc_chain.specs.declared.slots.TheConstants.{END}
@@ -13,10 +13,13 @@ begin-requires-clause-kept c =
 
 pub insert-requires-clause-kept : goal.insert-requires-clause-kept
 insert-requires-clause-kept c =
-    let last = ap (λ (slot : Slot). slot.before) c.at-last.ensures in
-    (c.requires.kept.0, c.requires.kept.1, c.requires.kept.2,
-    subst (λ m. has c.requires.kept.0 m ≡ true) (sym last) (last_entry c.args.self.now c.requires.kept.0 c.requires.kept.1 (λ is. c.if-last.false (last ∙ is))),
-    c.requires.kept.3)
+    let last = ap (λ (slot : Slot). slot.before) c.at-last.ensures in (
+      c.requires.kept.0,
+      c.requires.kept.1,
+      c.requires.kept.2,
+      subst (λ m. has c.requires.kept.0 m ≡ true) (sym last) (last_entry c.args.self.now c.requires.kept.0 c.requires.kept.1 (λ is. c.if-last.false (last ∙ is))),
+      c.requires.kept.3,
+    )
 
 pub returns-then-last : goal.returns-then-last
 returns-then-last c xs keeps new =

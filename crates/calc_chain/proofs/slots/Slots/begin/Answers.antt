@@ -1,4 +1,4 @@
-use Rattle.std.proofs.Common.{◌≡◌, ℕ, if◌then◌else◌, nat_eq, ap, ◌∙◌, arith}
+use Rattle.std.proofs.Common.{if◌then◌else◌, nat_eq, ap, ◌∙◌, arith}
 use Rattle.calc_chain.specs.declared.slots.TheConstants.{END}
 use Rattle.calc_chain.specs.declared.linking.TheConstants.{WIDE}
 use Rattle.calc_chain.proofs.KeepsLaws.{keeps_first}

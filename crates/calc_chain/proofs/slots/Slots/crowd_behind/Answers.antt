@@ -1,8 +1,7 @@
-use Rattle.std.proofs.Common.{◌≡◌, ◌≢◌, ◌+◌, ◌<◌, ◌≤◌, ◌-◌, ℕ, false, ap, subst, sym, ◌∙◌, arith, rules}
+use Rattle.std.proofs.Common.{ap, ◌∙◌, arith}
 use Rattle.calc_chain.specs.declared.slots.Slot.{Slot}
-use Rattle.calc_chain.specs.declared.slots.TheConstants.{END}
-use Rattle.calc_chain.specs.Linking.{after_of, label_of, nth, walk}
-use Rattle.calc_chain.proofs.RenewalLaws.{crowd_above, crowd_at_end, crowd_found, crowd_goes_on, crowd_small}
+use Rattle.calc_chain.specs.Linking.{label_of}
+use Rattle.calc_chain.proofs.RenewalLaws.{crowd_above, crowd_goes_on, crowd_small}
 use Rattle.calc_chain.proofs.slots.Slots.crowd_behind.Goals as goal
 
 pub overflow_sub-gap : goal.overflow_sub-gap

@@ -1,8 +1,8 @@
-use Rattle.std.proofs.Common.{◌≡◌, ◌≢◌, ◌+◌, ◌*◌, ◌<◌, ◌≤◌, ℕ, suc, ap, subst, sym, ◌∙◌, arith, rules, length}
+use Rattle.std.proofs.Common.{◌+◌, ap, subst, sym, ◌∙◌, arith}
 use Rattle.calc_chain.specs.declared.slots.Slot.{Slot}
-use Rattle.calc_chain.specs.Linking.{Fits, Relabels, after_of, nth, walk}
+use Rattle.calc_chain.specs.Linking.{Relabels, after_of, nth}
 use Rattle.calc_chain.proofs.CrowdLaws.{has-walk, nth-next}
-use Rattle.calc_chain.proofs.RenewalLaws.{one_more, relabels_more, relabels_none}
+use Rattle.calc_chain.proofs.RenewalLaws.{one_more, relabels_more}
 use Rattle.calc_chain.proofs.slots.Slots.relabel.Goals as goal
 
 pub set_label-requires : goal.set_label-requires
@@ -18,7 +18,7 @@ entries-preserved c =
     let label = c.entries.invariant.label in
     let below = c.entries-test.true in
     let more = relabels_more c.args.self.now c.entries.self c.set_label.new.self c.args.first c.args.count c.entries.done c.args.low c.args.step c.entries.next (c.entries.label + c.args.step) c.requires.once below c.entries.invariant.done at
-        (omega (arith, label)) (record { after = c.set_label.ensures.after; before = c.set_label.ensures.before; size = c.set_label.ensures.size }) c.set_label.ensures.labels in
+    (omega (arith, label)) (record { after = c.set_label.ensures.after; before = c.set_label.ensures.before; size = c.set_label.ensures.size }) c.set_label.ensures.labels in
     record {
       done = subst (λ m. Relabels c.args.self.now c.set_label.new.self c.args.first m c.args.low c.args.step) (one_more c.entries.done) more;
       next =

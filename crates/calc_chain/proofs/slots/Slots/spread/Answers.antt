@@ -1,9 +1,9 @@
-use Rattle.std.proofs.Common.{◌≡◌, ◌+◌, ◌*◌, ◌<◌, ℕ, List, true, subst, sym}
+use Rattle.std.proofs.Common.{◌≡◌, ◌+◌, ◌*◌, ◌<◌, ℕ, true, subst, sym}
 use Rattle.std.specs.List.{IsDistinct}
 use Rattle.std.specs.Prelude.{nat_eq}
 use Rattle.calc_chain.specs.Chain.{has}
 use Rattle.calc_chain.specs.declared.slots.Slot.{Slot}
-use Rattle.calc_chain.specs.Linking.{Fits, Keeps, Relabels, after_of, walk}
+use Rattle.calc_chain.specs.Linking.{Fits, Relabels, after_of, walk}
 use Rattle.calc_chain.proofs.KeepsLaws.{keeps_one}
 use Rattle.calc_chain.proofs.RenewalLaws.{crowd_fits, crowd_once, crowd_within, keeps_relabeled, room_relabeled}
 use Rattle.calc_chain.proofs.slots.Slots.spread.Goals as goal

@@ -1,7 +1,6 @@
-use Rattle.std.proofs.Common.{◌≡◌, ◌≢◌, ◌<◌, ℕ, List, true, length, if◌then◌else◌, nat_eq, ap, subst, sym, ◌∙◌}
+use Rattle.std.proofs.Common.{if◌then◌else◌, nat_eq, ap, subst, sym, ◌∙◌}
 use Rattle.calc_chain.specs.declared.slots.Slot.{Slot}
-use Rattle.calc_chain.specs.declared.slots.TheConstants.{END}
-use Rattle.calc_chain.specs.Linking.{Fits, after_of, before_of, label_of}
+use Rattle.calc_chain.specs.Linking.{Fits, after_of, before_of}
 use Rattle.calc_chain.proofs.KeepsLaws.{after_fits, before_fits, keeps_without}
 use Rattle.calc_chain.proofs.slots.Slots.unlink.Goals as goal
 
