@@ -65,10 +65,6 @@ due-strange flags x ns past =
     and_false true = refl
     and_false false = refl
 
--- with the same flags the same are due
-pub due-same : (flags flags' : List Bool) (ns : List ℕ) → ((y : ℕ) → get_or flags' y false ≡ get_or flags y false) → due_in flags' ns ≡ due_in flags ns
-due-same flags flags' ns same = filter-alike (λ y. get_or flags' y false) (λ y. get_or flags y false) ns (λ y _. same y)
-
 -- where all are flagged all are due
 pub due-all : (flags : List Bool) (ns : List ℕ) → ((x : ℕ) → has ns x ≡ true → get_or flags x false ≡ true) → due_in flags ns ≡ ns
 due-all flags ns all = filter-alike (λ y. get_or flags y false) (λ y. true) ns all ∙ every ns
@@ -76,32 +72,6 @@ due-all flags ns all = filter-alike (λ y. get_or flags y false) (λ y. true) ns
     every : (ys : List ℕ) → filter (λ y. true) ys ≡ ys
     every [] = refl
     every (y ∷ ys) = ap (λ zs. y ∷ zs) (every ys)
-
-due-cut : (flags : List Bool) (ns : List ℕ) (k n : ℕ) → k < length ns → n ≡ get_or ns k 0 → due_in flags (drop k ns) ≡ cond (get_or flags n false) (n ∷ due_in flags (drop (k + 1) ns)) (due_in flags (drop (k + 1) ns))
-due-cut flags ns k n below is =
-    ap (due_in flags) (drop-cons ns k 0 below)
-    ∙ ap (λ m. cond (get_or flags m false) (m ∷ due_in flags (drop (suc k) ns)) (due_in flags (drop (suc k) ns))) (sym is)
-    ∙ (let more : suc k ≡ k + 1 = omega arith in ap (λ m. cond (get_or flags n false) (n ∷ due_in flags (drop m ns)) (due_in flags (drop m ns))) more)
-
--- a flagged number that comes next is the first that is due
-pub due-taken : (flags : List Bool) (ns : List ℕ) (k n : ℕ) → k < length ns → n ≡ get_or ns k 0 → get_or flags n false ≡ true
-    → (Some n ≡ first_of (due_in flags (drop k ns))) × (due_in flags (drop (k + 1) ns) ≡ behind_first (due_in flags (drop k ns)))
-due-taken flags ns k n below is on =
-    let cut = due-cut flags ns k n below is ∙ ap (λ b. cond b (n ∷ due_in flags (drop (k + 1) ns)) (due_in flags (drop (k + 1) ns))) on in
-    (sym (ap first_of cut), sym (ap behind_first cut))
-
--- one that isn't flagged is passed
-pub due-passed : (flags : List Bool) (ns : List ℕ) (k n : ℕ) → k < length ns → n ≡ get_or ns k 0 → get_or flags n false ≡ false → due_in flags (drop (k + 1) ns) ≡ due_in flags (drop k ns)
-due-passed flags ns k n below is off = sym (due-cut flags ns k n below is ∙ ap (λ b. cond b (n ∷ due_in flags (drop (k + 1) ns)) (due_in flags (drop (k + 1) ns))) off)
-
-pub due-none : (flags : List Bool) (ns : List ℕ) (k : ℕ) → length ns ≤ k → due_in flags (drop k ns) ≡ []
-due-none flags ns k past = ap (due_in flags) (dropped ns k past)
-  where
-    dropped : (ys : List ℕ) (k : ℕ) → length ys ≤ k → drop k ys ≡ []
-    dropped [] zero past = refl
-    dropped [] (suc k) past = refl
-    dropped (y ∷ ys) zero past = absurd (omega (arith, past))
-    dropped (y ∷ ys) (suc k) past = dropped ys k (omega (arith, past))
 
 -- entries, each once, are no more than there are
 pub due-fits : (due entries : List ℕ) → IsDistinct nat_eq due → ((x : ℕ) → has due x ≡ true → has entries x ≡ true) → length due ≤ length entries

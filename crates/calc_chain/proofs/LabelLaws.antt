@@ -56,16 +56,6 @@ rise-filter l keeps low (x ∷ xs) high h =
       | false ↦ rise-lower l low (l x) (filter keeps xs) high (omega (arith, i)) rest
     ]
 
--- one list behind another
-pub rise-join : (l : ℕ → ℕ) (low : ℕ) (xs : List ℕ) (h m : ℕ) (ys : List ℕ) (high : ℕ) → h ≤ suc m → Rise l low xs h → Rise l m ys high → Rise l low (xs ++ ys) high
-rise-join l low [] h m ys high meets front back = rise-lower l low m ys high (omega (arith, meets, front)) back
-rise-join l low (x ∷ xs) h m ys high meets front back = (front.0, rise-join l (l x) xs h m ys high meets front.1 back)
-
--- the first part of a list, and the rest behind the label of the last of it
-pub rise-front : (l : ℕ → ℕ) (low : ℕ) (xs : List ℕ) (y : ℕ) (ys : List ℕ) (high : ℕ) → Rise l low (xs ++ y ∷ ys) high → Rise l low (xs ++ y ∷ []) (suc (l y)) × Rise l (l y) ys high
-rise-front l low [] y ys high h = ((h.0, omega arith), h.1)
-rise-front l low (x ∷ xs) y ys high h = let i = rise-front l (l x) xs y ys high h.1 in ((h.0, i.0), i.1)
-
 -- with a new label behind an entry, below that of what stands behind it
 pub rise-put : (n p l l' : ℕ → ℕ) (a low : ℕ) (xs : List ℕ) (b high y x v : ℕ) → AreLinked n p a xs b → IsDistinct nat_eq xs → has xs b ≡ false → has xs y ≡ true → has xs x ≡ false
     → ((q : ℕ) → l' q ≡ (if nat_eq q x then v else l q)) → l y < v → (n y ≡ b → v < high) → (n y ≢ b → v < l (n y)) → Rise l low xs high → Rise l' low (put_behind xs y x) high

@@ -148,13 +148,6 @@ room_renewed s s' xs y keeps h new =
 
 -- ---- one label after another
 
-pub relabels_none : (s : Slots) (first low step : ℕ) → Relabels s s first 0 low step
-relabels_none s first low step = record {
-  links = record { after = λ _. refl; before = λ _. refl; size = refl };
-  others = λ _ _. refl;
-  apart = λ k below. absurd (omega (arith, below));
-}
-
 pub relabels_more : (s mid new : Slots) (first c k low step next label : ℕ) → IsDistinct nat_eq (walk (after_of s) c first) → k < c → Relabels s mid first k low step → next ≡ nth (after_of s) k first → label ≡ low + (k + 1) * step
     → KeepsLinks mid new → ((q : ℕ) → label_of new q ≡ (if nat_eq q next then label else label_of mid q)) → Relabels s new first (suc k) low step
 relabels_more s mid new first c k low step next label d below before at is links labels = record {
@@ -193,31 +186,6 @@ relabels_more s mid new first c k low step next label d below before at is links
     if_yes false v w h = cc
 
 -- ---- how far a crowd goes
-
-pub crowd_found : (s : Slots) (xs : List ℕ) (y c next low label step : ℕ) → Keeps s xs → has xs y ≡ true → has (walk (after_of s) c (after_of s y)) END ≡ false → next ≡ nth (after_of s) c (after_of s y) → next ≢ END
-    → low ≡ label_of s y → label ≡ label_of s next → IsStep (label - low) c step → IsCrowd s y c step
-crowd_found s xs y c next low label step keeps h off at apart own its found = record {
-  entries = off;
-  wide = found.wide;
-  last = λ is. absurd (apart (at ∙ is));
-  next = λ away.
-      let above = crowd_above s xs y c keeps h off away in
-      let same = ap (label_of s) at in
-      let within = found.within in
-      omega (arith, above, same, within, own, its);
-}
-
-pub crowd_at_end : (s : Slots) (xs : List ℕ) (y c next low step : ℕ) → Keeps s xs → has xs y ≡ true → has (walk (after_of s) c (after_of s y)) END ≡ false → next ≡ nth (after_of s) c (after_of s y) → next ≡ END
-    → low ≡ label_of s y → IsStep (18446744073709551615 - low) c step → IsCrowd s y c step
-crowd_at_end s xs y c next low step keeps h off at end own found = record {
-  entries = off;
-  wide = found.wide;
-  last = λ _.
-      let below = (rise-between (label_of s) 0 xs (2 ^ 64) y keeps.rising h).1 in
-      let within = found.within in
-      omega (arith, below, within, own);
-  next = λ away. absurd (away (sym at ∙ end));
-}
 
 pub one_more : (k : ℕ) → suc k ≡ k + 1
 one_more k = omega arith
