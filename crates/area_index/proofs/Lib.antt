@@ -5,5 +5,9 @@ mod InOrder
 mod Levels
 mod Found
 mod Bounds
+mod Standing
+mod Orders
+mod Turning
+mod Kept
 mod Forests
 mod Readers
