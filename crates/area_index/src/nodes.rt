@@ -10,14 +10,17 @@ use std::alloc::Global;
 use std::sync::ledger::Ledger;
 
 /// A pair, the tree's height at it and the greatest bottom row of its tree, and the numbers of the nodes on either side.
+/// The widest field stands first, so that none of its 48 bytes is wasted between fields.
 #[derive(Clone, Copy, Debug)]
 pub struct Node {
-    pub pair: Pair,
     pub height: u64,
     pub bottom: u32,
     pub left: u32,
     pub right: u32,
+    pub pair: Pair,
 }
+
+const _: () = prove!(size_of::<Node>() == 48);
 
 /// A pair and the number of its node.
 #[derive(Clone, Copy, Debug)]
