@@ -143,7 +143,8 @@ impl Nodes {
 
     /// The tree that has an entry between two sides.
     pub fn link(&mut self, entry: Entry, left: u32, right: u32) -> u32
-        ensures { (l r : Shape) → Turns self.old.items.items self.new.items.items
+        ensures count { length self.new.items.items ≡ length self.old.items.items }
+        ensures turns { (l r : Shape) → Turns self.old.items.items self.new.items.items
             (alone entry.at ∷ rooted left l ∷ rooted right r ∷ [])
             (rooted result (node_of l entry r) ∷ []) }
     {

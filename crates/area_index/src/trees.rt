@@ -34,7 +34,8 @@ pub struct First {
 
 /// The tree with an entry's pair, unless the pair is there. It has that many levels at most.
 pub fn insert(nodes: &mut Nodes, root: u32, levels: u64, entry: Entry) -> Inserted
-    ensures { (t : Shape) → depth_of t ≤ levels
+    ensures count { length nodes.new.items.items ≡ length nodes.old.items.items }
+    ensures turns { (t : Shape) → depth_of t ≤ levels
         → Turns nodes.old.items.items nodes.new.items.items
         (alone entry.at ∷ rooted root t ∷ [])
         (rooted result.root (inserted t entry) ∷ left_over result.is_used entry.at) }
@@ -75,7 +76,8 @@ pub fn insert(nodes: &mut Nodes, root: u32, levels: u64, entry: Entry) -> Insert
 
 /// The tree without a pair. It has that many levels at most.
 pub fn remove(nodes: &mut Nodes, root: u32, levels: u64, pair: Pair) -> Removed
-    ensures { (t : Shape) → depth_of t ≤ levels
+    ensures count { length nodes.new.items.items ≡ length nodes.old.items.items }
+    ensures turns { (t : Shape) → depth_of t ≤ levels
         → Turns nodes.old.items.items nodes.new.items.items
         (rooted root t ∷ [])
         (rooted result.root (removed t pair) ∷ taken_out result.taken) }
@@ -148,7 +150,8 @@ pub fn visit<L: Ledger>(
 
 /// An entry between two sides, whose heights differ by at most two, turned where one is too high.
 fn balance(nodes: &mut Nodes, entry: Entry, left: u32, right: u32) -> u32
-    ensures { (l r : Shape) → Turns nodes.old.items.items nodes.new.items.items
+    ensures count { length nodes.new.items.items ≡ length nodes.old.items.items }
+    ensures turns { (l r : Shape) → Turns nodes.old.items.items nodes.new.items.items
         (alone entry.at ∷ rooted left l ∷ rooted right r ∷ [])
         (rooted result (balanced l entry r) ∷ []) }
 {
@@ -164,7 +167,8 @@ fn balance(nodes: &mut Nodes, entry: Entry, left: u32, right: u32) -> u32
 
 /// An entry between two sides, of which the left one is too high.
 fn lean_to_left(nodes: &mut Nodes, entry: Entry, left: u32, right: u32) -> u32
-    ensures { (l r : Shape) → Turns nodes.old.items.items nodes.new.items.items
+    ensures count { length nodes.new.items.items ≡ length nodes.old.items.items }
+    ensures turns { (l r : Shape) → Turns nodes.old.items.items nodes.new.items.items
         (alone entry.at ∷ rooted left l ∷ rooted right r ∷ [])
         (rooted result (lean_left l entry r) ∷ []) }
 {
@@ -187,7 +191,8 @@ fn lean_to_left(nodes: &mut Nodes, entry: Entry, left: u32, right: u32) -> u32
 
 /// An entry between two sides, of which the right one is too high.
 fn lean_to_right(nodes: &mut Nodes, entry: Entry, left: u32, right: u32) -> u32
-    ensures { (l r : Shape) → Turns nodes.old.items.items nodes.new.items.items
+    ensures count { length nodes.new.items.items ≡ length nodes.old.items.items }
+    ensures turns { (l r : Shape) → Turns nodes.old.items.items nodes.new.items.items
         (alone entry.at ∷ rooted left l ∷ rooted right r ∷ [])
         (rooted result (lean_right l entry r) ∷ []) }
 {
@@ -210,7 +215,8 @@ fn lean_to_right(nodes: &mut Nodes, entry: Entry, left: u32, right: u32) -> u32
 
 /// Two entries with the tree between them, whose root is raised above both.
 fn raise(nodes: &mut Nodes, low: Entry, left: u32, inner: u32, high: Entry, right: u32) -> u32
-    ensures { (l m r : Shape) → Turns nodes.old.items.items nodes.new.items.items
+    ensures count { length nodes.new.items.items ≡ length nodes.old.items.items }
+    ensures turns { (l m r : Shape) → Turns nodes.old.items.items nodes.new.items.items
         (alone low.at ∷ rooted left l ∷ rooted inner m ∷ alone high.at ∷ rooted right r ∷ [])
         (rooted result (raised l low m high r) ∷ []) }
 {
@@ -233,7 +239,8 @@ fn raise(nodes: &mut Nodes, low: Entry, left: u32, inner: u32, high: Entry, righ
 
 /// Two trees as one. The right one has that many levels at most.
 fn join(nodes: &mut Nodes, left: u32, right: u32, levels: u64) -> u32
-    ensures { (l r : Shape) → depth_of r ≤ levels
+    ensures count { length nodes.new.items.items ≡ length nodes.old.items.items }
+    ensures turns { (l r : Shape) → depth_of r ≤ levels
         → Turns nodes.old.items.items nodes.new.items.items
         (rooted left l ∷ rooted right r ∷ [])
         (rooted result (joined l r) ∷ []) }
@@ -253,6 +260,7 @@ fn join(nodes: &mut Nodes, left: u32, right: u32, levels: u64) -> u32
 
 /// The first entry of the tree that an entry has with these sides, and what is left. It has that many levels at most.
 fn take_first(nodes: &mut Nodes, entry: Entry, left: u32, right: u32, levels: u64) -> First
+    ensures count { length nodes.new.items.items ≡ length nodes.old.items.items }
     ensures first { (l : Shape) (rest : List Part) → depth_of l ≤ levels
         → AreParts nodes.old.items.items (rooted left l ∷ rest)
         → first_of l entry ≡ result.entry }

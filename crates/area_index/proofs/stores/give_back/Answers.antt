@@ -4,4 +4,4 @@ use Rattle.area_index.proofs.Kept.{before_free}
 use Rattle.area_index.proofs.stores.give_back.Goals as goal
 
 pub returns : goal.returns
-returns c = record { parts = λ es rest parts. c.link.ensures (row_of es) empty rest (before_free parts) }
+returns c = record { parts = λ es rest parts. c.link.ensures.turns (row_of es) empty rest (before_free parts) }

@@ -20,7 +20,7 @@ returns-in-Some c kept =
     let root : c.index.result.now ≡ number_of t = c.index.ensures ∙ any_default old.trees sheet c.index.result.now NONE within ∙ root-in old kept sheet in
     let p1 = picked old.nodes (rooted old.free (row_of kept.frees)) kept.shapes sheet c.index.result.now (subst (λ n. sheet < n) many within) root kept.parts in
     let deep : depth_of t ≤ c.count-levels.result = subst (λ n. depth_of t ≤ n) (sym c.count-levels.ensures) (depth-in old kept sheet) in
-    let p2 = c.remove-removed.ensures t deep _ p1 in
+    let p2 = c.remove-removed.ensures.turns t deep _ p1 in
     let made = ap (λ z. removed z c.args.pair) (sym (tree_in-is old kept sheet)) in
     let p3 = subst (λ taken. AreParts c.remove-removed.new.nodes.items.items (rooted c.remove-removed.result.root (removed t c.args.pair) ∷ (taken_out taken ++ rooted old.free (row_of kept.frees) ∷ rooted_all (slice_set kept.shapes sheet empty)))) c.in-Some.is p2 in
     let p4 = c.give_back.ensures.parts kept.frees _ (to_cba p3) in
@@ -41,7 +41,7 @@ returns-in_default c kept =
     let root : c.index.result.now ≡ number_of t = c.index.ensures ∙ any_default old.trees sheet c.index.result.now NONE within ∙ root-in old kept sheet in
     let p1 = picked old.nodes (rooted old.free (row_of kept.frees)) kept.shapes sheet c.index.result.now (subst (λ n. sheet < n) many within) root kept.parts in
     let deep : depth_of t ≤ c.count-levels.result = subst (λ n. depth_of t ≤ n) (sym c.count-levels.ensures) (depth-in old kept sheet) in
-    let p2 = c.remove-removed.ensures t deep _ p1 in
+    let p2 = c.remove-removed.ensures.turns t deep _ p1 in
     let made = ap (λ z. removed z c.args.pair) (sym (tree_in-is old kept sheet)) in
     let p3 = subst (λ taken. AreParts c.remove-removed.new.nodes.items.items (rooted c.remove-removed.result.root (removed t c.args.pair) ∷ (taken_out taken ++ rooted old.free (row_of kept.frees) ∷ rooted_all (slice_set kept.shapes sheet empty)))) c.in_default.is p2 in
     let new : Forest = record { nodes = c.remove-removed.new.nodes.items.items; free = c.args.store.now.free; trees = slice_set c.args.store.now.trees.items sheet c.remove-removed.result.root; links = 0 } in

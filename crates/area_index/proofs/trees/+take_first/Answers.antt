@@ -23,7 +23,7 @@ returns-in-Some-clause-rest u c l r deep rest parts =
     let levels = sides_levels l o.left here top.height top.bottom o.right c.args.levels o.is deep in
     let p1 = same_parts c.args.nodes.now c.node.new.self _ c.node.ensures.same o.parts in
     let p2 = c.take_first-first.ensures.rest o.left o.right levels.0 _ p1 in
-    let p3 = c.balance.ensures (rest_of o.left here o.right) r _ (to_cbda p2) in
+    let p3 = c.balance.ensures.turns (rest_of o.left here o.right) r _ (to_cbda p2) in
     let e = ap (λ z. rest_of z c.args.entry r) o.is in
     subst (λ z. AreParts c.balance.new.nodes.items.items (alone c.take_first-first.result.entry.at ∷ rooted c.balance.result z ∷ rest)) (sym e) (to_ba p3)
 
