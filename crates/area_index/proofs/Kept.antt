@@ -1,5 +1,5 @@
 -- The trees of the sheets and the free nodes, as one store keeps them.
-use Rattle.std.proofs.Common.{◌≡◌, ◌≢◌, ℕ, zero, suc, ◌+◌, ◌<◌, ◌≤◌, max, Bool, true, false, cond, List, [], ◌∷◌, ◌++◌, None, Some, length, refl, ap, sym, ◌∙◌, subst, nat_eq, nat_lt, arith}
+use Rattle.std.proofs.Common.{length-append, ◌≡◌, ◌≢◌, ℕ, zero, suc, ◌+◌, ◌<◌, ◌≤◌, max, Bool, true, false, cond, List, [], ◌∷◌, ◌++◌, None, Some, length, refl, ap, sym, ◌∙◌, subst, nat_eq, nat_lt, arith}
 use Rattle.std.specs.Prelude.{map, not, slice_get, slice_index_or, slice_set}
 use Rattle.std.specs.List.{AllByRecursion}
 use Rattle.std.proofs.lemmas.Bool.{eqb-true, lt-ltb}
@@ -8,9 +8,9 @@ use Rattle.area_index.specs.declared.pairs.Pair.{Pair}
 use Rattle.area_index.specs.declared.nodes.Node.{Node}
 use Rattle.area_index.specs.declared.nodes.Entry.{Entry}
 use Rattle.area_index.specs.declared.nodes.TheConstants.{LEVELS, NONE}
-use Rattle.area_index.specs.Shapes.{Shape, depth_of, empty, fork, height_of, higher, node_of}
+use Rattle.area_index.specs.Shapes.{Shape, depth_of, empty, fork, in_order, height_of, higher, node_of}
 use Rattle.area_index.specs.Standing.{number_of, IsStanding, Part, alone, rooted, IsPartStanding, one, count_in, size_of, count_in_all, size_of_all, AreParts, row_of, tree_at}
-use Rattle.area_index.specs.Forests.{Forest, ChangesAt, HasSameTrees, IsKept, free_in, rooted_all, tree_in}
+use Rattle.area_index.specs.Forests.{Forest, ChangesAt, HasSameTrees, IsKept, free_in, pair_count, pairs_below, rooted_all, tree_in}
 use Rattle.area_index.proofs.Orders.{to_ba}
 use Rattle.area_index.proofs.Standing.{closed, height-at, opened}
 
@@ -172,8 +172,8 @@ free_in-is forest kept =
     height-at forest.nodes forest.free (row_of kept.frees) kept.parts.few kept.parts.each.0 ∙ height-row kept.frees (omega arith)
 
 -- the tree of one sheet put back in place of the one that stood there
-pub changed : (old new : Forest) (kept : IsKept old) (sheet root : ℕ) (t : Shape) (es : List Entry) → sheet < length old.trees → new.trees ≡ slice_set old.trees sheet root → AreParts new.nodes (rooted root t ∷ rooted new.free (row_of es) ∷ rooted_all (slice_set kept.shapes sheet empty)) → ChangesAt old new sheet t × (free_in new ≡ length es)
-changed old new kept sheet root t es h is parts =
+pub changed : (old new : Forest) (kept : IsKept old) (sheet root : ℕ) (t : Shape) (es : List Entry) → length new.nodes ≡ length old.nodes → sheet < length old.trees → new.trees ≡ slice_set old.trees sheet root → AreParts new.nodes (rooted root t ∷ rooted new.free (row_of es) ∷ rooted_all (slice_set kept.shapes sheet empty)) → ChangesAt old new sheet t × (free_in new ≡ length es)
+changed old new kept sheet root t es large h is parts =
     let within : sheet < length kept.shapes = subst (λ n. sheet < n) (many-in old kept) h in
     let now : IsKept new = record {
       shapes = slice_set kept.shapes sheet t;
@@ -186,6 +186,7 @@ changed old new kept sheet root t es h is parts =
       here = tree_in-is new now sheet ∙ at-set kept.shapes sheet t within;
       others = λ other apart. tree_in-is new now other ∙ at-set_other kept.shapes sheet other t apart ∙ sym (tree_in-is old kept other);
       as_many = ap length is ∙ many-set old.trees sheet root;
+      as_large = large;
     } in
     (changes, free_in-is new now)
 
@@ -258,7 +259,7 @@ get-more [] x k y h = cc
 get-more (z ∷ nodes) x zero y h = h
 get-more (z ∷ nodes) x (suc k) y h = get-more nodes x k y h
 
-many-more : (nodes : List Node) (x : Node) → length (nodes ++ x ∷ []) ≡ length nodes + 1
+pub many-more : (nodes : List Node) (x : Node) → length (nodes ++ x ∷ []) ≡ length nodes + 1
 many-more [] x = refl
 many-more (z ∷ nodes) x = let e = many-more nodes x in omega arith
 
@@ -352,3 +353,25 @@ one_sheet_more old new nodes free trees = record {
       ap (λ ns. tree_at (length ns) ns (slice_index_or new.trees sheet NONE)) nodes
       ∙ ap (tree_at (length old.nodes) old.nodes) (ap (λ ns. slice_index_or ns sheet NONE) trees ∙ root-more old.trees sheet);
 }
+
+-- ---- as many nodes as pairs and free nodes
+
+size-pairs : (t : Shape) → length (in_order t) ≡ size_of t
+size-pairs empty = refl
+size-pairs (fork l e h b r) = let x = size-pairs l in let y = size-pairs r in let z = length-append (in_order l) (e.pair ∷ in_order r) in omega arith
+
+pairs-below : (nodes : List Node) (shapes : List Shape) → length nodes ≤ NONE → size_of_all (rooted_all shapes) ≤ length nodes → AllByRecursion (IsPartStanding nodes) (rooted_all shapes) → pairs_below nodes (map number_of shapes) ≡ size_of_all (rooted_all shapes)
+pairs-below nodes [] few fits a = refl
+pairs-below nodes (t ∷ shapes) few fits a =
+    let here : length (in_order (tree_at (length nodes) nodes (number_of t))) ≡ size_of t = ap (λ z. length (in_order z)) (tree_at-is (length nodes) nodes t few a.0.1 (omega arith)) ∙ size-pairs t in
+    let rest = pairs-below nodes shapes few (omega arith) a.1 in
+    omega arith
+
+-- each node has a pair or is free
+pub nodes-are : (forest : Forest) (kept : IsKept forest) → length forest.nodes ≡ pair_count forest + free_in forest
+nodes-are forest kept =
+    let all = kept.parts.all in
+    let row = size-row kept.frees in
+    let free = free_in-is forest kept in
+    let pairs : pair_count forest ≡ size_of_all (rooted_all kept.shapes) = ap (pairs_below forest.nodes) kept.roots ∙ pairs-below forest.nodes kept.shapes kept.parts.few (omega arith) kept.parts.each.1 in
+    omega arith

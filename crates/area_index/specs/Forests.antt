@@ -1,5 +1,5 @@
 -- The trees of the sheets.
-use Rattle.std.specs.Prelude.{◌≡◌, ◌≢◌, ◌+◌, ◌*◌, ◌^◌, count_by, ◌<◌, ◌≤◌, ℕ, Bool, true, false, not, ◌||◌, ◌&&◌, List, ◌∷◌, map, length, slice_index_or}
+use Rattle.std.specs.Prelude.{◌≡◌, ◌≢◌, ◌+◌, ◌*◌, ◌^◌, count_by, ◌<◌, ◌≤◌, ℕ, Bool, true, false, not, ◌||◌, ◌&&◌, List, [], ◌∷◌, map, length, slice_index_or}
 use Rattle.std.specs.List.{AllByRecursion, list_any}
 use Rattle.std.specs.List.Sorted.{IsStrictlySortedBy}
 use Rattle.cell_refs.specs.declared.areas.Area.{Area}
@@ -41,6 +41,15 @@ pairs_on forest sheet = in_order (tree_in forest sheet)
 -- the levels of a sheet's tree
 abbrev pub levels_on : Forest → ℕ → ℕ
 levels_on forest sheet = height_of (tree_in forest sheet)
+
+abbrev pub pairs_below : List Node → List ℕ → ℕ
+pairs_below nodes [] = 0
+pairs_below nodes (root ∷ roots) =
+    length (in_order (tree_at (length nodes) nodes root)) + pairs_below nodes roots
+
+-- the number of pairs on all sheets
+abbrev pub pair_count : Forest → ℕ
+pair_count forest = pairs_below forest.nodes forest.trees
 
 -- the pairs of nodes
 abbrev pub pairs_of : List Node → List Pair
@@ -88,11 +97,16 @@ pub record ChangesAt (old new : Forest) (sheet : ℕ) (t : Shape) : Type 0 where
   pub here : tree_in new sheet ≡ t
   pub others : (other : ℕ) → other ≢ sheet → tree_in new other ≡ tree_in old other
   pub as_many : length new.trees ≡ length old.trees
+  pub as_large : length new.nodes ≡ length old.nodes
 
 -- the same trees stand there, and what was kept is
 pub record HasSameTrees (old new : Forest) : Type 0 where
   pub kept : IsKept old → IsKept new
   pub trees : IsKept old → (sheet : ℕ) → tree_in new sheet ≡ tree_in old sheet
+
+-- as many nodes aren't free
+abbrev pub HasAsManyUsed : Forest → Forest → Type 0
+HasAsManyUsed old new = length new.nodes + free_in old ≡ length old.nodes + free_in new
 
 -- what a store keeps, where so many pairs were put in
 abbrev pub forest_with : Store → ℕ → Forest

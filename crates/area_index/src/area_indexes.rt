@@ -1,4 +1,4 @@
-ghost use Rattle.std.specs.Prelude.{◌≡◌, ◌+◌, ◌<◌, ◌≤◌, IfOk, length, map};
+ghost use Rattle.std.specs.Prelude.{◌≡◌, ◌+◌, ◌<◌, ◌≤◌, max, IfOk, length, map};
 
 use super::indexes::{find_in, make_free, new_nodes, open_sheets, put_in_order};
 use super::nodes::{LEVELS, Node};
@@ -31,7 +31,7 @@ impl Model for AreaIndex {
 }
 
 impl AreaIndex {
-    ghost use Rattle.area_index.specs.Forests.{AreReadersAt, IsBoundedWalk, HasAlso, HasAlsoAll, HasInstead, HasLess, HasNoMore, HasNone, IsReady, SamePairs, free_in, pair_at, pairs_of, pairs_on};
+    ghost use Rattle.area_index.specs.Forests.{AreReadersAt, IsBoundedWalk, HasAlso, HasAlsoAll, HasInstead, HasLess, HasNoMore, HasNone, IsReady, SamePairs, free_in, pair_at, pair_count, pairs_of, pairs_on};
     ghost use Rattle.area_index.specs.Walk.{readers_at};
 
     /// An index without pairs.
@@ -51,6 +51,7 @@ impl AreaIndex {
         ensures links { self.new.links ≡ self.old.links + 1 }
         ensures sheets { length self.new.trees ≡ length self.old.trees }
         ensures free { free_in self.old ≤ free_in self.new + 1 }
+        ensures size { length self.new.nodes ≡ length self.old.nodes }
     {
         insert_into(&mut self.store, pair);
         self.links += 1;
@@ -62,6 +63,7 @@ impl AreaIndex {
         ensures links { self.new.links ≡ self.old.links }
         ensures sheets { length self.new.trees ≡ length self.old.trees }
         ensures free { free_in self.old ≤ free_in self.new }
+        ensures size { length self.new.nodes ≡ length self.old.nodes }
     {
         remove_from(&mut self.store, pair);
     }
@@ -72,6 +74,7 @@ impl AreaIndex {
         ensures links { self.new.links ≡ self.old.links }
         ensures sheets { length self.new.trees ≡ length self.old.trees }
         ensures free { free_in self.old ≤ free_in self.new }
+        ensures size { length self.new.nodes ≡ length self.old.nodes }
     {
         for area in areas {
             let area = *area;
@@ -83,6 +86,7 @@ impl AreaIndex {
     fn insert_all(&mut self, mut nodes: Vec<Node>)
         requires ready { IsReady self.old (length nodes.items) }
         ensures pairs { HasAlsoAll self.old self.new (pairs_of nodes.items) }
+        ensures size { length self.new.nodes ≡ length self.old.nodes }
     {
         while let Some(node) = nodes.pop() {
             self.insert(node.pair);
@@ -93,6 +97,7 @@ impl AreaIndex {
     pub fn exchange(&mut self, reader: Cell, areas: &[Area], nodes: Vec<Node>)
         requires ready { IsReady self.old (length nodes.items) }
         ensures pairs { HasInstead self.old self.new reader areas.now (pairs_of nodes.items) }
+        ensures size { length self.new.nodes ≡ length self.old.nodes }
     {
         self.remove_all(reader, areas);
         self.insert_all(nodes);
@@ -109,6 +114,8 @@ impl AreaIndex {
         ensures ready { IfOk result (λ nodes. IsReady self.new (length nodes.items)) }
         ensures nodes { IfOk result (λ nodes.
             pairs_of nodes.items ≡ map (pair_at reader) areas.now) }
+        ensures size { length self.new.nodes
+            ≤ max (length self.old.nodes) (pair_count self.old + length areas.now) }
     {
         open_sheets(&mut self.store)?;
         let nodes = new_nodes(alloc, reader, areas)?;

@@ -1,8 +1,8 @@
-ghost use Rattle.std.specs.Prelude.{◌≡◌, ◌+◌, ◌≤◌, IfOk, OnOk, length, map};
+ghost use Rattle.std.specs.Prelude.{◌≡◌, ◌+◌, ◌≤◌, max, IfOk, OnOk, length, map};
 ghost use Rattle.std.specs.List.Sorted.{IsStrictlySortedBy};
 ghost use Rattle.cell_refs.specs.declared.grid.Cell.{Cell as OneCell};
 ghost use Rattle.cell_refs.specs.Cell.{cell_cmp, is_among};
-ghost use Rattle.area_index.specs.Forests.{HasSameTrees, IsKept, forest_of, free_in, pair_at, pairs_of, tree_in};
+ghost use Rattle.area_index.specs.Forests.{HasAsManyUsed, HasSameTrees, IsKept, forest_of, free_in, pair_at, pairs_of, tree_in};
 ghost use Rattle.area_index.specs.Walk.{found, visits};
 
 use super::nodes::{NONE, Node};
@@ -17,6 +17,8 @@ use std::sync::ledger::Ledger;
 pub fn open_sheets(store: &mut Store) -> Result<(), Memory>
     ensures same { HasSameTrees (forest_of store.old) (forest_of store.new) }
     ensures sheets { OnOk result (256 ≤ length store.new.trees.items) }
+    ensures nodes { store.new.nodes ≡ store.old.nodes }
+    ensures free { store.new.free ≡ store.old.free }
 {
     while store.trees.len() < 256 {
         store.trees.push(NONE)?;
@@ -30,6 +32,11 @@ pub fn make_free(store: &mut Store, nodes: &[Node]) -> Result<(), Memory>
     ensures sheets { store.new.trees.items ≡ store.old.trees.items }
     ensures free { OnOk result (IsKept (forest_of store.old)
         → length nodes.now ≤ free_in (forest_of store.new)) }
+    ensures most { IsKept (forest_of store.old)
+        → free_in (forest_of store.new)
+        ≤ max (free_in (forest_of store.old)) (length nodes.now) }
+    ensures used { IsKept (forest_of store.old)
+        → HasAsManyUsed (forest_of store.old) (forest_of store.new) }
 {
     for node in nodes {
         add_one_of(store, *node, nodes.len() as u64)?;

@@ -1,8 +1,8 @@
 //! Trees of nodes, one for each sheet, and the nodes that are free.
 
-ghost use Rattle.std.specs.Prelude.{◌≡◌, ◌+◌, ◌<◌, ◌≤◌, ◌∷◌, List, [], min, OnOk, length};
+ghost use Rattle.std.specs.Prelude.{◌≡◌, ◌+◌, ◌<◌, ◌≤◌, ◌∷◌, List, [], max, min, OnOk, length};
 ghost use Rattle.area_index.specs.declared.nodes.Entry.{Entry as OneEntry};
-ghost use Rattle.area_index.specs.Forests.{ChangesAt, HasSameTrees, IsKept, forest_of, free_in, tree_in};
+ghost use Rattle.area_index.specs.Forests.{ChangesAt, HasAsManyUsed, HasSameTrees, IsKept, forest_of, free_in, tree_in};
 ghost use Rattle.area_index.specs.Shapes.{inserted, removed};
 ghost use Rattle.area_index.specs.Standing.{AreParts, Part, alone, rooted, row_of};
 
@@ -50,6 +50,7 @@ fn take(nodes: &mut Nodes, free: &mut u32) -> u32
 
 /// Makes a node free.
 fn give_back(nodes: &mut Nodes, free: &mut u32, entry: Entry)
+    ensures count { length nodes.new.items.items ≡ length nodes.old.items.items }
     ensures parts { (es : List OneEntry) (rest : List Part)
         → AreParts nodes.old.items.items (rooted free.old (row_of es) ∷ alone entry.at ∷ rest)
         → AreParts nodes.new.items.items (rooted free.new (row_of (entry ∷ es)) ∷ rest) }
@@ -101,6 +102,10 @@ pub fn add_free(store: &mut Store, node: Node) -> Result<(), Memory>
     ensures same { HasSameTrees (forest_of store.old) (forest_of store.new) }
     ensures free { OnOk result (IsKept (forest_of store.old)
         → free_in (forest_of store.new) ≡ free_in (forest_of store.old) + 1) }
+    ensures most { IsKept (forest_of store.old)
+        → free_in (forest_of store.new) ≤ free_in (forest_of store.old) + 1 }
+    ensures used { IsKept (forest_of store.old)
+        → HasAsManyUsed (forest_of store.old) (forest_of store.new) }
 {
     let at = store.nodes.add(node)?;
     give_back(
@@ -120,6 +125,10 @@ pub fn add_one_of(store: &mut Store, node: Node, count: u64) -> Result<(), Memor
     ensures same { HasSameTrees (forest_of store.old) (forest_of store.new) }
     ensures free { OnOk result (IsKept (forest_of store.old)
         → min (free_in (forest_of store.old) + 1) count ≤ free_in (forest_of store.new)) }
+    ensures most { IsKept (forest_of store.old)
+        → free_in (forest_of store.new) ≤ max (free_in (forest_of store.old)) count }
+    ensures used { IsKept (forest_of store.old)
+        → HasAsManyUsed (forest_of store.old) (forest_of store.new) }
 {
     if store.nodes.height(store.free) < count {
         add_free(store, node)?;

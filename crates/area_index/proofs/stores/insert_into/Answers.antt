@@ -29,10 +29,11 @@ returns-then-not-inserted c kept some =
     let p6 = c.insert-inserted.ensures.turns t deep _ p5 in
     let entry = entry_with c.take-at.result c.args.pair in
     let made = ap (λ z. inserted z entry) (sym (tree_in-is old kept sheet)) ∙ ap (λ n. inserted (tree_in old sheet) (entry_with n c.args.pair)) c.take-at.ensures.number in
+    let large = c.insert-inserted.ensures.count ∙ ap (λ nodes. length nodes.items.items) c.take-at.ensures.same in
     let p7 = subst (λ u. AreParts c.insert-inserted.new.nodes.items.items (rooted c.insert-inserted.result.root (inserted t entry) ∷ (left_over u c.take-at.result ++ rooted c.take-at.new.free (row_of f.rest) ∷ rooted_all (slice_set kept.shapes sheet empty)))) (not_true c.insert-inserted.result.is_used c.if-not-inserted.true) p6 in
     let p8 = c.give_back.ensures.parts f.rest _ (to_cba p7) in
     let new : Forest = record { nodes = c.give_back.new.nodes.items.items; free = c.give_back.new.free; trees = slice_set c.args.store.now.trees.items sheet c.insert-inserted.result.root; links = 0 } in
-    let ch = changed old new kept sheet c.insert-inserted.result.root (inserted t entry) (entry ∷ f.rest) within refl (to_ba p8) in
+    let ch = changed old new kept sheet c.insert-inserted.result.root (inserted t entry) (entry ∷ f.rest) (c.give_back.ensures.count ∙ large) within refl (to_ba p8) in
     let first = ap length f.is in
     let more = ch.1 in
     (subst (λ s. ChangesAt old new s (inserted (tree_in old s) (entry_with c.args.store.now.free c.args.pair))) at_sheet (subst (λ z. ChangesAt old new sheet z) made ch.0), omega arith)
@@ -57,9 +58,10 @@ returns-else-not-inserted c kept some =
     let p6 = c.insert-inserted.ensures.turns t deep _ p5 in
     let entry = entry_with c.take-at.result c.args.pair in
     let made = ap (λ z. inserted z entry) (sym (tree_in-is old kept sheet)) ∙ ap (λ n. inserted (tree_in old sheet) (entry_with n c.args.pair)) c.take-at.ensures.number in
+    let large = c.insert-inserted.ensures.count ∙ ap (λ nodes. length nodes.items.items) c.take-at.ensures.same in
     let p7 = subst (λ u. AreParts c.insert-inserted.new.nodes.items.items (rooted c.insert-inserted.result.root (inserted t entry) ∷ (left_over u c.take-at.result ++ rooted c.take-at.new.free (row_of f.rest) ∷ rooted_all (slice_set kept.shapes sheet empty)))) (not_false c.insert-inserted.result.is_used c.if-not-inserted.false) p6 in
     let new : Forest = record { nodes = c.insert-inserted.new.nodes.items.items; free = c.take-at.new.free; trees = slice_set c.args.store.now.trees.items sheet c.insert-inserted.result.root; links = 0 } in
-    let ch = changed old new kept sheet c.insert-inserted.result.root (inserted t entry) f.rest within refl p7 in
+    let ch = changed old new kept sheet c.insert-inserted.result.root (inserted t entry) f.rest large within refl p7 in
     let first = ap length f.is in
     let more = ch.1 in
     (subst (λ s. ChangesAt old new s (inserted (tree_in old s) (entry_with c.args.store.now.free c.args.pair))) at_sheet (subst (λ z. ChangesAt old new sheet z) made ch.0), omega arith)

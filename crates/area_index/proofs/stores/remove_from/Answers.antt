@@ -25,7 +25,7 @@ returns-in-Some c kept =
     let p3 = subst (λ taken. AreParts c.remove-removed.new.nodes.items.items (rooted c.remove-removed.result.root (removed t c.args.pair) ∷ (taken_out taken ++ rooted old.free (row_of kept.frees) ∷ rooted_all (slice_set kept.shapes sheet empty)))) c.in-Some.is p2 in
     let p4 = c.give_back.ensures.parts kept.frees _ (to_cba p3) in
     let new : Forest = record { nodes = c.give_back.new.nodes.items.items; free = c.give_back.new.free; trees = slice_set c.args.store.now.trees.items sheet c.remove-removed.result.root; links = 0 } in
-    let ch = changed old new kept sheet c.remove-removed.result.root (removed t c.args.pair) (entry_with c.in-Some.at c.args.pair ∷ kept.frees) within refl (to_ba p4) in
+    let ch = changed old new kept sheet c.remove-removed.result.root (removed t c.args.pair) (entry_with c.in-Some.at c.args.pair ∷ kept.frees) (c.give_back.ensures.count ∙ c.remove-removed.ensures.count) within refl (to_ba p4) in
     let more = ch.1 in
     (subst (λ s. ChangesAt old new s (removed (tree_in old s) c.args.pair)) at_sheet (subst (λ z. ChangesAt old new sheet z) made ch.0), omega arith)
 
@@ -45,7 +45,7 @@ returns-in_default c kept =
     let made = ap (λ z. removed z c.args.pair) (sym (tree_in-is old kept sheet)) in
     let p3 = subst (λ taken. AreParts c.remove-removed.new.nodes.items.items (rooted c.remove-removed.result.root (removed t c.args.pair) ∷ (taken_out taken ++ rooted old.free (row_of kept.frees) ∷ rooted_all (slice_set kept.shapes sheet empty)))) c.in_default.is p2 in
     let new : Forest = record { nodes = c.remove-removed.new.nodes.items.items; free = c.args.store.now.free; trees = slice_set c.args.store.now.trees.items sheet c.remove-removed.result.root; links = 0 } in
-    let ch = changed old new kept sheet c.remove-removed.result.root (removed t c.args.pair) kept.frees within refl p3 in
+    let ch = changed old new kept sheet c.remove-removed.result.root (removed t c.args.pair) kept.frees c.remove-removed.ensures.count within refl p3 in
     let more = ch.1 in
     (subst (λ s. ChangesAt old new s (removed (tree_in old s) c.args.pair)) at_sheet (subst (λ z. ChangesAt old new sheet z) made ch.0), omega arith)
 
@@ -59,5 +59,6 @@ returns-else-sheet-len c kept =
       here = none ∙ sym (ap (λ z. removed z c.args.pair) none);
       others = λ other apart. refl;
       as_many = refl;
+      as_large = refl;
     } in
     (same, omega arith)
