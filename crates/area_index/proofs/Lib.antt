@@ -8,6 +8,8 @@ mod Bounds
 mod Standing
 mod Orders
 mod Turning
+mod TreeLists
+mod FreeNodes
 mod Kept
 mod Forests
 mod Readers

@@ -4,7 +4,8 @@ use Rattle.area_index.specs.Shapes.{depth_of}
 use Rattle.area_index.specs.Standing.{number_of}
 use Rattle.area_index.specs.Forests.{forest_of, tree_in}
 use Rattle.area_index.specs.Walk.{found, visits}
-use Rattle.area_index.proofs.Kept.{any_default, depth-in, root-in, shape_at, standing-in, tree-past, tree_in-is}
+use Rattle.area_index.proofs.Kept.{depth-in, root-in, standing-in, tree-past, tree_in-is}
+use Rattle.area_index.proofs.TreeLists.{any_default, shape_at}
 use Rattle.area_index.proofs.indexes.find_in.Goals as goal
 
 pub returns-in_err-visit-clause-steps : goal.returns-in_err-visit-clause-steps

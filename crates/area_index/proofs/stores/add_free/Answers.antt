@@ -1,7 +1,8 @@
 use Rattle.std.proofs.Common.{length, ap, ◌∷◌, ◌∙◌, sym, arith}
 use Rattle.area_index.specs.Standing.{rooted, row_of}
 use Rattle.area_index.specs.Forests.{Forest, IsKept, forest_of, rooted_all}
-use Rattle.area_index.proofs.Kept.{many-more, entry_with, free_in-is, grown, tree_in-is}
+use Rattle.area_index.proofs.FreeNodes.{many-more, grown}
+use Rattle.area_index.proofs.Kept.{entry_with, free_in-is, tree_in-is}
 use Rattle.area_index.proofs.stores.add_free.Goals as goal
 
 pub returns-clause-same : goal.returns-clause-same

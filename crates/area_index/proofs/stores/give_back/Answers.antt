@@ -1,6 +1,6 @@
 use Rattle.area_index.specs.Shapes.{empty}
 use Rattle.area_index.specs.Standing.{row_of}
-use Rattle.area_index.proofs.Kept.{before_free}
+use Rattle.area_index.proofs.FreeNodes.{before_free}
 use Rattle.area_index.proofs.stores.give_back.Goals as goal
 
 pub returns-clause-parts : goal.returns-clause-parts

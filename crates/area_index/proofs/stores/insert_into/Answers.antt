@@ -4,7 +4,8 @@ use Rattle.area_index.specs.declared.nodes.TheConstants.{NONE}
 use Rattle.area_index.specs.Shapes.{depth_of, empty, inserted}
 use Rattle.area_index.specs.Standing.{AreParts, alone, left_over, number_of, rooted, row_of}
 use Rattle.area_index.specs.Forests.{Forest, ChangesAt, forest_of, rooted_all, tree_in}
-use Rattle.area_index.proofs.Kept.{any_default, changed, depth-in, entry_with, free_in-is, many-in, not_false, not_true, picked, root-in, shape_at, some_free, tree_in-is}
+use Rattle.area_index.proofs.Kept.{changed, depth-in, entry_with, free_in-is, many-in, not_false, not_true, picked, root-in, some_free, tree_in-is}
+use Rattle.area_index.proofs.TreeLists.{any_default, shape_at}
 use Rattle.area_index.proofs.Orders.{to_acb, to_ba, to_cba}
 use Rattle.area_index.proofs.Turning.{same_parts}
 use Rattle.area_index.proofs.stores.insert_into.Goals as goal

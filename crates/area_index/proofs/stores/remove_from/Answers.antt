@@ -4,7 +4,8 @@ use Rattle.area_index.specs.declared.nodes.TheConstants.{NONE}
 use Rattle.area_index.specs.Shapes.{depth_of, empty, removed}
 use Rattle.area_index.specs.Standing.{AreParts, number_of, rooted, row_of, taken_out}
 use Rattle.area_index.specs.Forests.{Forest, ChangesAt, forest_of, rooted_all, tree_in}
-use Rattle.area_index.proofs.Kept.{any_default, changed, depth-in, entry_with, free_in-is, many-in, picked, root-in, shape_at, tree-past, tree_in-is}
+use Rattle.area_index.proofs.Kept.{changed, depth-in, entry_with, free_in-is, many-in, picked, root-in, tree-past, tree_in-is}
+use Rattle.area_index.proofs.TreeLists.{any_default, shape_at}
 use Rattle.area_index.proofs.Orders.{to_ba, to_cba}
 use Rattle.area_index.proofs.stores.remove_from.Goals as goal
 

@@ -1,5 +1,5 @@
 use Rattle.std.proofs.Common.{◌∙◌, sym}
-use Rattle.area_index.proofs.Kept.{first_taken, none_free}
+use Rattle.area_index.proofs.FreeNodes.{first_taken, none_free}
 use Rattle.area_index.proofs.stores.take.Goals as goal
 
 pub returns-in-Some-clause-taken : goal.returns-in-Some-clause-taken
