@@ -6,6 +6,7 @@ use Rattle.std.proofs.lemmas.Bool.Decides.{leb_tells}
 use Rattle.std.proofs.lemmas.List.Sums.{sum_by-append, sum_by-cons}
 use Rattle.std.specs.List.{AllByRecursion}
 use Rattle.area_index.specs.declared.pairs.Pair.{Pair}
+use Rattle.area_index.specs.declared.nodes.Entry.{Entry}
 use Rattle.area_index.specs.Pairs.{pair_cmp}
 use Rattle.area_index.specs.Shapes.{Shape, empty, fork, in_order, height_of, bottom_of, IsLevel, IsOrdered}
 use Rattle.area_index.specs.Walk.{visits, rows_have, pairs_in, pairs_at}
@@ -16,10 +17,10 @@ use Rattle.area_index.proofs.Found.{tops_rise}
 abbrev one_at : ℕ → Pair → ℕ
 one_at row p = cond (rows_have row p) 1 0
 
-pairs_at-fork : (l : Shape) (p : Pair) (h b : ℕ) (r : Shape) (row : ℕ) → pairs_at (fork l p h b r) row ≡ pairs_at l row + (one_at row p + pairs_at r row)
+pairs_at-fork : (l : Shape) (p : Entry) (h b : ℕ) (r : Shape) (row : ℕ) → pairs_at (fork l p h b r) row ≡ pairs_at l row + (one_at row p.pair + pairs_at r row)
 pairs_at-fork l p h b r row =
-    sum_by-append (one_at row) (in_order l) (p ∷ in_order r)
-    ∙ ap (λ z. pairs_at l row + z) (sum_by-cons (one_at row) p (in_order r))
+    sum_by-append (one_at row) (in_order l) (p.pair ∷ in_order r)
+    ∙ ap (λ z. pairs_at l row + z) (sum_by-cons (one_at row) p.pair (in_order r))
 
 both : (a b : Bool) → a ≡ true → b ≡ true → (a && b) ≡ true
 both a b e f = rw (e, f) refl
@@ -31,13 +32,13 @@ one-is row p a b = ap (λ w. cond w 1 0) (both _ _ (le-leb p.area.top row a) (le
 some_at : (t : Shape) (row : ℕ) → IsLevel t → AllByRecursion (λ p. p.area.top ≤ row) (in_order t) → 1 ≤ row → row ≤ bottom_of t → 1 ≤ pairs_at t row
 some_at empty row a tops positive reach = absurd (omega arith)
 some_at (fork l p h b r) row a tops positive reach =
-    let e : b ≡ max p.area.bottom (max (bottom_of l) (bottom_of r)) = a.5 in
+    let e : b ≡ max p.pair.area.bottom (max (bottom_of l) (bottom_of r)) = a.5 in
     let k = pairs_at-fork l p h b r row in
-    let here = all_middle _ (in_order l) p (in_order r) tops in
-    let left = some_at l row a.0 (all_front _ (in_order l) (p ∷ in_order r) tops) positive in
-    let right = some_at r row a.1 (all_behind _ (in_order l) p (in_order r) tops) positive in
-    elim (leb_tells row p.area.bottom) as (λ _. 1 ≤ pairs_at (fork l p h b r) row) [
-      | inl x ↦ let o = one-is row p here x.1 in omega arith
+    let here = all_middle _ (in_order l) p.pair (in_order r) tops in
+    let left = some_at l row a.0 (all_front _ (in_order l) (p.pair ∷ in_order r) tops) positive in
+    let right = some_at r row a.1 (all_behind _ (in_order l) p.pair (in_order r) tops) positive in
+    elim (leb_tells row p.pair.area.bottom) as (λ _. 1 ≤ pairs_at (fork l p h b r) row) [
+      | inl x ↦ let o = one-is row p.pair here x.1 in omega arith
       | inr x ↦ elim (leb_tells row (bottom_of l)) as (λ _. 1 ≤ pairs_at (fork l p h b r) row) [
         | inl y ↦ let o = left y.1 in omega arith
         | inr y ↦ let o : 1 ≤ pairs_at r row = right (let x1 = x.1 in let y1 = y.1 in omega arith) in omega arith
@@ -59,7 +60,7 @@ one_more k m = mul-add k m 1 ∙ ap (λ z. k * m + z) (Rattle.std.proofs.Math.Na
 -- where every area begins no lower than the row, each level has no more nodes gone through than pairs at the row
 visits_above : (t : Shape) (row : ℕ) → IsLevel t → AllByRecursion (λ p. p.area.top ≤ row) (in_order t) → visits t row ≤ 1 + 2 * (pairs_at t row * height_of t)
 visits_above empty row a tops = omega arith
-visits_above (fork l p h b r) row a tops = by (nat_lt b row) refl (nat_lt row p.area.top) refl (visits_above l row a.0 (all_front _ (in_order l) (p ∷ in_order r) tops)) (visits_above r row a.1 (all_behind _ (in_order l) p (in_order r) tops)) where
+visits_above (fork l p h b r) row a tops = by (nat_lt b row) refl (nat_lt row p.pair.area.top) refl (visits_above l row a.0 (all_front _ (in_order l) (p.pair ∷ in_order r) tops)) (visits_above r row a.1 (all_behind _ (in_order l) p.pair (in_order r) tops)) where
   k : ℕ
   k = pairs_at (fork l p h b r) row
 
@@ -67,15 +68,15 @@ visits_above (fork l p h b r) row a tops = by (nat_lt b row) refl (nat_lt row p.
   some n =
       let reach : row ≤ b = ltb-false b row n in
       let e = pairs_at-fork l p h b r row in
-      let here = all_middle _ (in_order l) p (in_order r) tops in
-      elim (leb_tells row p.area.bottom) as (λ _. 1 ≤ pairs_at (fork l p h b r) row) [
-        | inl x ↦ let o = one-is row p here x.1 in omega arith
+      let here = all_middle _ (in_order l) p.pair (in_order r) tops in
+      elim (leb_tells row p.pair.area.bottom) as (λ _. 1 ≤ pairs_at (fork l p h b r) row) [
+        | inl x ↦ let o = one-is row p.pair here x.1 in omega arith
         | inr x ↦ some_at (fork l p h b r) row a tops (let y = x.1 in omega arith) reach
       ]
 
-  by : (w : Bool) → nat_lt b row ≡ w → (v : Bool) → nat_lt row p.area.top ≡ v → visits l row ≤ 1 + 2 * (pairs_at l row * height_of l) → visits r row ≤ 1 + 2 * (pairs_at r row * height_of r) → cond w 1 (1 + visits l row + cond v 0 (visits r row)) ≤ 1 + 2 * (pairs_at (fork l p h b r) row * h)
+  by : (w : Bool) → nat_lt b row ≡ w → (v : Bool) → nat_lt row p.pair.area.top ≡ v → visits l row ≤ 1 + 2 * (pairs_at l row * height_of l) → visits r row ≤ 1 + 2 * (pairs_at r row * height_of r) → cond w 1 (1 + visits l row + cond v 0 (visits r row)) ≤ 1 + 2 * (pairs_at (fork l p h b r) row * h)
   by true n v e x y = omega arith
-  by false n true e x y = absurd (let u : row < p.area.top = ltb-true row p.area.top e in let here = all_middle _ (in_order l) p (in_order r) tops in omega arith)
+  by false n true e x y = absurd (let u : row < p.pair.area.top = ltb-true row p.pair.area.top e in let here = all_middle _ (in_order l) p.pair (in_order r) tops in omega arith)
   by false n false e x y =
       let m = max (height_of l) (height_of r) in
       let g : h ≡ m + 1 = a.2 in
@@ -87,8 +88,8 @@ visits_above (fork l p h b r) row a tops = by (nat_lt b row) refl (nat_lt row p.
 -- the walk looks at no more than twice the levels for each pair at the row, and as many again
 pub visits-le : (t : Shape) (row : ℕ) → IsLevel t → IsOrdered t → visits t row ≤ 2 * ((pairs_at t row + 1) * height_of t)
 visits-le empty row a s = omega arith
-visits-le (fork l p h b r) row a s = by (nat_lt b row) refl (nat_lt row p.area.top) refl (visits-le l row a.0 (sorted_front pair_cmp (in_order l) (p ∷ in_order r) s)) (visits-le r row a.1 (sorted_back pair_cmp (in_order l) p (in_order r) s)) where
-  by : (w : Bool) → nat_lt b row ≡ w → (v : Bool) → nat_lt row p.area.top ≡ v → visits l row ≤ 2 * ((pairs_at l row + 1) * height_of l) → visits r row ≤ 2 * ((pairs_at r row + 1) * height_of r) → cond w 1 (1 + visits l row + cond v 0 (visits r row)) ≤ 2 * ((pairs_at (fork l p h b r) row + 1) * h)
+visits-le (fork l p h b r) row a s = by (nat_lt b row) refl (nat_lt row p.pair.area.top) refl (visits-le l row a.0 (sorted_front pair_cmp (in_order l) (p.pair ∷ in_order r) s)) (visits-le r row a.1 (sorted_back pair_cmp (in_order l) p.pair (in_order r) s)) where
+  by : (w : Bool) → nat_lt b row ≡ w → (v : Bool) → nat_lt row p.pair.area.top ≡ v → visits l row ≤ 2 * ((pairs_at l row + 1) * height_of l) → visits r row ≤ 2 * ((pairs_at r row + 1) * height_of r) → cond w 1 (1 + visits l row + cond v 0 (visits r row)) ≤ 2 * ((pairs_at (fork l p h b r) row + 1) * h)
   by true n v e x y =
       let m = max (height_of l) (height_of r) in
       let g : h ≡ m + 1 = a.2 in
@@ -103,8 +104,8 @@ visits-le (fork l p h b r) row a s = by (nat_lt b row) refl (nat_lt row p.area.t
       let m = max (height_of l) (height_of r) in
       let g : h ≡ m + 1 = a.2 in
       let c = pairs_at-fork l p h b r row in
-      let u : p.area.top ≤ row = ltb-false row p.area.top e in
-      let w = visits_above l row a.0 (all_map _ (λ q. q.area.top ≤ row) (in_order l) (λ q k. let j = tops_rise q p k in omega arith) (front_below pair_cmp (in_order l) p (in_order r) s)) in
+      let u : p.pair.area.top ≤ row = ltb-false row p.pair.area.top e in
+      let w = visits_above l row a.0 (all_map _ (λ q. q.area.top ≤ row) (in_order l) (λ q k. let j = tops_rise q p.pair k in omega arith) (front_below pair_cmp (in_order l) p.pair (in_order r) s)) in
       let q = products (pairs_at l row) (pairs_at r row + 1) (pairs_at (fork l p h b r) row + 1) (height_of l) (height_of r) m (omega arith) (omega arith) (omega arith) in
       rw g (let z = one_more (pairs_at (fork l p h b r) row + 1) m in omega arith)
 
@@ -128,7 +129,7 @@ levels-le empty a = omega arith
 levels-le (fork l p h b r) a =
     let m = max (height_of l) (height_of r) in
     let g : h ≡ m + 1 = a.2 in
-    let n : pairs_in (fork l p h b r) + 1 ≡ (pairs_in l + 1) + (pairs_in r + 1) = omega (arith, length-append (in_order l) (p ∷ in_order r)) in
+    let n : pairs_in (fork l p h b r) + 1 ≡ (pairs_in l + 1) + (pairs_in r + 1) = omega (arith, length-append (in_order l) (p.pair ∷ in_order r)) in
     let s = squares (2 ^ height_of l) (2 ^ height_of r) (pairs_in l + 1) (pairs_in r + 1) (levels-le l a.0) (levels-le r a.1) (doubled (height_of l) (height_of r) a.3) (doubled (height_of r) (height_of l) a.4) in
     rw (n, g) (top s (leb_tells (height_of l) (height_of r))) where
       top : (2 * 2 ^ height_of l ≤ ((pairs_in l + 1) + (pairs_in r + 1)) * ((pairs_in l + 1) + (pairs_in r + 1))) × (2 * 2 ^ height_of r ≤ ((pairs_in l + 1) + (pairs_in r + 1)) * ((pairs_in l + 1) + (pairs_in r + 1))) → ((nat_le (height_of l) (height_of r) ≡ true) × (height_of l ≤ height_of r)) ⊎ ((nat_le (height_of l) (height_of r) ≡ false) × (height_of r < height_of l)) → 2 ^ (max (height_of l) (height_of r) + 1) ≤ ((pairs_in l + 1) + (pairs_in r + 1)) * ((pairs_in l + 1) + (pairs_in r + 1))

@@ -1,5 +1,5 @@
 -- The trees of the sheets after a change: what holds of them, and which pairs are there.
-use Rattle.std.proofs.Common.{◌≡◌, ◌≢◌, ℕ, ◌+◌, ◌<◌, true, false, ◌&&◌, ◌||◌, List, [], refl, ap, sym, ◌∙◌, subst, nat_eq, arith}
+use Rattle.std.proofs.Common.{◌≡◌, ◌≢◌, ℕ, ◌+◌, ◌<◌, true, false, ◌&&◌, ◌||◌, [], refl, ap, sym, ◌∙◌, subst, nat_eq, arith}
 use Rattle.std.specs.Prelude.{not}
 use Rattle.std.specs.declared.cmp.Ordering.{Ordering}
 use Rattle.std.specs.declared.cmp.Ordering.TheVariants.{Less, Equal, Greater}
@@ -15,11 +15,13 @@ use Rattle.cell_refs.specs.declared.grid.Cell.{Cell}
 use Rattle.cell_refs.specs.Cell.{cell_cmp}
 use Rattle.cell_refs.proofs.PublicLaws.{exact_cells}
 use Rattle.area_index.specs.declared.pairs.Pair.{Pair}
-use Rattle.area_index.specs.declared.trees.Tree.{Tree}
-use Rattle.area_index.specs.declared.trees.TheConstants.{LEVELS}
+use Rattle.area_index.specs.declared.nodes.Entry.{Entry}
+use Rattle.area_index.specs.declared.nodes.TheConstants.{LEVELS, NONE}
+use Rattle.area_index.specs.declared.stores.Store.{Store}
 use Rattle.area_index.specs.Pairs.{pair_cmp, pairs_total, same_pair}
 use Rattle.area_index.specs.Shapes.{Shape, empty, in_order, inserted, removed}
-use Rattle.area_index.specs.Forests.{tree_in, has_pair, IsSheetTree, IsForest, ChangesAt}
+use Rattle.area_index.specs.Forests.{tree_in, has_pair, forest_of, forest_with, HasSameTrees, IsKept, IsSheetTree, IsForest, ChangesAt}
+use Rattle.area_index.proofs.Kept.{tree_in-is}
 use Rattle.area_index.proofs.Ordered.{all_insert, all_leave, sorted_insert, any_insert, differs}
 use Rattle.area_index.proofs.InOrder.{in_order-inserted, in_order-removed}
 use Rattle.area_index.proofs.Levels.{level-inserted, level-removed}
@@ -52,7 +54,7 @@ pub same_pairs : IsEquivalence same_pair
 same_pairs = eq_by_cmp_equiv pairs_total
 
 -- what holds of a sheet's tree, after a pair was put in
-pub sheet-inserted : (sheet links : ℕ) (t : Shape) (p : Pair) → IsSheetTree sheet links t → p.area.sheet ≡ sheet → links + 1 < LEVELS → IsSheetTree sheet (links + 1) (inserted t p)
+pub sheet-inserted : (sheet links : ℕ) (t : Shape) (p : Entry) → IsSheetTree sheet links t → p.pair.area.sheet ≡ sheet → links + 1 < LEVELS → IsSheetTree sheet (links + 1) (inserted t p)
 sheet-inserted sheet links t p s e room =
     let within = s.within in
     let w = level-inserted t p s.level (omega arith) in
@@ -60,8 +62,8 @@ sheet-inserted sheet links t p s e room =
     let i = in_order-inserted t p s.ordered in
     record {
       level = w.level;
-      ordered = rw i (sorted_insert pairs_total (in_order t) p s.ordered);
-      own = rw i (all_insert pairs_total (λ q. q.area.sheet ≡ sheet) (in_order t) p s.own e);
+      ordered = rw i (sorted_insert pairs_total (in_order t) p.pair s.ordered);
+      own = rw i (all_insert pairs_total (λ q. q.area.sheet ≡ sheet) (in_order t) p.pair s.own e);
       within = omega arith;
     }
 
@@ -87,20 +89,26 @@ by_sheet P x y same apart = elim (nat_eq x y) as (λ t. nat_eq x y ≡ t → P) 
   | false ↦ λ e. apart (eqb-false x y e)
 ] refl
 
+-- what is kept doesn't rest on how many pairs were put in
+pub kept_as : (store : Store) (m n : ℕ) → IsKept (forest_with store m) → IsKept (forest_with store n)
+kept_as store m n k = record { shapes = k.shapes; frees = k.frees; roots = k.roots; parts = k.parts }
+
 -- what holds of the trees, after a pair was put in
-pub forest-inserted : (old new : List Tree) (links : ℕ) (p : Pair) → IsForest (record { trees = old; links = links }) → ChangesAt old new p.area.sheet (inserted (tree_in old p.area.sheet) p) → links + 1 < LEVELS → IsForest (record { trees = new; links = links + 1 })
+pub forest-inserted : (old new : Store) (links : ℕ) (p : Entry) → IsForest (forest_with old links) → ChangesAt (forest_of old) (forest_of new) p.pair.area.sheet (inserted (tree_in (forest_of old) p.pair.area.sheet) p) → links + 1 < LEVELS → IsForest (forest_with new (links + 1))
 forest-inserted old new links p f c room = record {
   room = room;
-  trees = λ sheet. by_sheet (IsSheetTree sheet (links + 1) (tree_in new sheet)) sheet p.area.sheet
-      (λ e. rw (e, c.here) (sheet-inserted p.area.sheet links (tree_in old p.area.sheet) p (f.trees p.area.sheet) refl room))
-      (λ n. rw (c.others sheet n) (sheet-more sheet links (tree_in old sheet) (f.trees sheet)));
+  kept = kept_as new 0 (links + 1) c.kept;
+  trees = λ sheet. by_sheet (IsSheetTree sheet (links + 1) (tree_in (forest_of new) sheet)) sheet p.pair.area.sheet
+      (λ e. rw (e, c.here) (sheet-inserted p.pair.area.sheet links (tree_in (forest_of old) p.pair.area.sheet) p (f.trees p.pair.area.sheet) refl room))
+      (λ n. rw (c.others sheet n) (sheet-more sheet links (tree_in (forest_of old) sheet) (f.trees sheet)));
 }
 
-pub forest-removed : (old new : List Tree) (links : ℕ) (p : Pair) → IsForest (record { trees = old; links = links }) → ChangesAt old new p.area.sheet (removed (tree_in old p.area.sheet) p) → IsForest (record { trees = new; links = links })
+pub forest-removed : (old new : Store) (links : ℕ) (p : Pair) → IsForest (forest_with old links) → ChangesAt (forest_of old) (forest_of new) p.area.sheet (removed (tree_in (forest_of old) p.area.sheet) p) → IsForest (forest_with new links)
 forest-removed old new links p f c = record {
   room = f.room;
-  trees = λ sheet. by_sheet (IsSheetTree sheet links (tree_in new sheet)) sheet p.area.sheet
-      (λ e. rw (e, c.here) (sheet-removed p.area.sheet links (tree_in old p.area.sheet) p (f.trees p.area.sheet) f.room))
+  kept = kept_as new 0 links c.kept;
+  trees = λ sheet. by_sheet (IsSheetTree sheet links (tree_in (forest_of new) sheet)) sheet p.area.sheet
+      (λ e. rw (e, c.here) (sheet-removed p.area.sheet links (tree_in (forest_of old) p.area.sheet) p (f.trees p.area.sheet) f.room))
       (λ n. rw (c.others sheet n) (f.trees sheet));
 }
 
@@ -108,40 +116,69 @@ not_same : (q p : Pair) → q.area.sheet ≢ p.area.sheet → same_pair q p ≡ 
 not_same q p n = elim (same_pair q p) as (λ w. same_pair q p ≡ w → w ≡ false) [ true ↦ λ e. absurd (n (ap (λ r. r.area.sheet) (same_pair_is q p e))) | false ↦ λ e. refl ] refl
 
 -- which pairs are there, after one was put in
-pub has-inserted : (old new : List Tree) (links more : ℕ) (p : Pair) → IsForest (record { trees = old; links = links }) → ChangesAt old new p.area.sheet (inserted (tree_in old p.area.sheet) p) → (q : Pair) → has_pair (record { trees = new; links = more }) q ≡ (same_pair q p || has_pair (record { trees = old; links = links }) q)
+pub has-inserted : (old new : Store) (links more : ℕ) (p : Entry) → IsForest (forest_with old links) → ChangesAt (forest_of old) (forest_of new) p.pair.area.sheet (inserted (tree_in (forest_of old) p.pair.area.sheet) p) → (q : Pair) → has_pair (forest_with new more) q ≡ (same_pair q p.pair || has_pair (forest_with old links) q)
 unfolding has_pair
 has-inserted old new links more p f c q =
-    by_sheet (list_any (same_pair q) (in_order (tree_in new q.area.sheet)) ≡ (same_pair q p || list_any (same_pair q) (in_order (tree_in old q.area.sheet)))) q.area.sheet p.area.sheet
-    (λ e. subst (λ s. list_any (same_pair q) (in_order (tree_in new s)) ≡ (same_pair q p || list_any (same_pair q) (in_order (tree_in old s)))) (sym e) (rw (c.here, in_order-inserted (tree_in old p.area.sheet) p (f.trees p.area.sheet).ordered) (any_insert pairs_total q (in_order (tree_in old p.area.sheet)) p)))
-    (λ n. rw (c.others q.area.sheet n, not_same q p n) refl)
+    by_sheet (list_any (same_pair q) (in_order (tree_in (forest_of new) q.area.sheet)) ≡ (same_pair q p.pair || list_any (same_pair q) (in_order (tree_in (forest_of old) q.area.sheet)))) q.area.sheet p.pair.area.sheet
+    (λ e. subst (λ s. list_any (same_pair q) (in_order (tree_in (forest_of new) s)) ≡ (same_pair q p.pair || list_any (same_pair q) (in_order (tree_in (forest_of old) s)))) (sym e) (rw (c.here, in_order-inserted (tree_in (forest_of old) p.pair.area.sheet) p (f.trees p.pair.area.sheet).ordered) (any_insert pairs_total q (in_order (tree_in (forest_of old) p.pair.area.sheet)) p.pair)))
+    (λ n. rw (c.others q.area.sheet n, not_same q p.pair n) refl)
 
 -- which pairs are there, after one was taken out
-pub has-removed : (old new : List Tree) (links : ℕ) (p : Pair) → IsForest (record { trees = old; links = links }) → ChangesAt old new p.area.sheet (removed (tree_in old p.area.sheet) p) → (q : Pair) → has_pair (record { trees = new; links = links }) q ≡ (not (same_pair q p) && has_pair (record { trees = old; links = links }) q)
+pub has-removed : (old new : Store) (links : ℕ) (p : Pair) → IsForest (forest_with old links) → ChangesAt (forest_of old) (forest_of new) p.area.sheet (removed (tree_in (forest_of old) p.area.sheet) p) → (q : Pair) → has_pair (forest_with new links) q ≡ (not (same_pair q p) && has_pair (forest_with old links) q)
 unfolding has_pair
 has-removed old new links p f c q =
-    by_sheet (list_any (same_pair q) (in_order (tree_in new q.area.sheet)) ≡ (not (same_pair q p) && list_any (same_pair q) (in_order (tree_in old q.area.sheet)))) q.area.sheet p.area.sheet
-    (λ e. subst (λ s. list_any (same_pair q) (in_order (tree_in new s)) ≡ (not (same_pair q p) && list_any (same_pair q) (in_order (tree_in old s)))) (sym e) (rw (c.here, in_order-removed (tree_in old p.area.sheet) p (f.trees p.area.sheet).ordered) (any-filter_same (same_pair q) (differs pair_cmp p) (not (same_pair q p)) (λ k g. ap not (same_pairs.symm p k ∙ sym (ap (λ z. same_pair z p) (same_pair_is q k g)))) (in_order (tree_in old p.area.sheet)))))
+    by_sheet (list_any (same_pair q) (in_order (tree_in (forest_of new) q.area.sheet)) ≡ (not (same_pair q p) && list_any (same_pair q) (in_order (tree_in (forest_of old) q.area.sheet)))) q.area.sheet p.area.sheet
+    (λ e. subst (λ s. list_any (same_pair q) (in_order (tree_in (forest_of new) s)) ≡ (not (same_pair q p) && list_any (same_pair q) (in_order (tree_in (forest_of old) s)))) (sym e) (rw (c.here, in_order-removed (tree_in (forest_of old) p.area.sheet) p (f.trees p.area.sheet).ordered) (any-filter_same (same_pair q) (differs pair_cmp p) (not (same_pair q p)) (λ k g. ap not (same_pairs.symm p k ∙ sym (ap (λ z. same_pair z p) (same_pair_is q k g)))) (in_order (tree_in (forest_of old) p.area.sheet)))))
     (λ n. rw (c.others q.area.sheet n, not_same q p n) refl)
-
-empty_tree : (trees : List Tree) (sheet : ℕ) → trees ≡ [] → tree_in trees sheet ≡ empty
-empty_tree trees sheet e = ap (λ ts. tree_in ts sheet) e
 
 sheet-empty : (sheet links : ℕ) → IsSheetTree sheet links empty
 unfolding IsStrictlySortedBy
 sheet-empty sheet links = record { level = tt; ordered = tt; own = tt; within = omega arith }
 
--- what holds of no trees
-pub forest-none : (trees : List Tree) → trees ≡ [] → IsForest (record { trees = trees; links = 0 })
-forest-none trees e = record { room = omega arith; trees = λ sheet. rw (empty_tree trees sheet e) (sheet-empty sheet 0) }
+-- a store without nodes and trees
+none-kept : (store : Store) → store.nodes.items.items ≡ [] → store.free ≡ NONE → store.trees.items ≡ [] → IsKept (forest_with store 0)
+none-kept store nodes free trees = record {
+  shapes = [];
+  frees = [];
+  roots = trees;
+  parts = rw nodes (record { each = ((free, tt), tt); apart = λ k. omega arith; all = refl; few = omega arith });
+}
 
-pub has-none : (trees : List Tree) (links : ℕ) → trees ≡ [] → (p : Pair) → has_pair (record { trees = trees; links = links }) p ≡ false
+none-tree : (store : Store) → store.nodes.items.items ≡ [] → store.free ≡ NONE → store.trees.items ≡ [] → (sheet : ℕ) → tree_in (forest_with store 0) sheet ≡ empty
+unfolding none-kept
+none-tree store nodes free trees sheet = tree_in-is (forest_with store 0) (none-kept store nodes free trees) sheet
+
+-- what holds of no trees
+pub forest-none : (store : Store) → store.nodes.items.items ≡ [] → store.free ≡ NONE → store.trees.items ≡ [] → IsForest (forest_with store 0)
+forest-none store nodes free trees = record {
+  room = omega arith;
+  kept = none-kept store nodes free trees;
+  trees = λ sheet. rw (none-tree store nodes free trees sheet) (sheet-empty sheet 0);
+}
+
+pub has-none : (store : Store) → store.nodes.items.items ≡ [] → store.free ≡ NONE → store.trees.items ≡ [] → (p : Pair) → has_pair (forest_with store 0) p ≡ false
 unfolding has_pair
-has-none trees links e p = rw (empty_tree trees p.area.sheet e) refl
+has-none store nodes free trees p = rw (none-tree store nodes free trees p.area.sheet) refl
 
 -- trees that are the same at each sheet
-pub forest-same : (old new : List Tree) (links : ℕ) → ((sheet : ℕ) → tree_in new sheet ≡ tree_in old sheet) → IsForest (record { trees = old; links = links }) → IsForest (record { trees = new; links = links })
-forest-same old new links same f = record { room = f.room; trees = λ sheet. rw (same sheet) (f.trees sheet) }
+pub forest-same : (old new : Store) (links : ℕ) → HasSameTrees (forest_of old) (forest_of new) → IsForest (forest_with old links) → IsForest (forest_with new links)
+forest-same old new links same f =
+    let kept = kept_as old links 0 f.kept in
+    record {
+      room = f.room;
+      kept = kept_as new 0 links (same.kept kept);
+      trees = λ sheet. rw (same.trees kept sheet) (f.trees sheet);
+    }
 
-pub has-same : (old new : List Tree) (links more : ℕ) → ((sheet : ℕ) → tree_in new sheet ≡ tree_in old sheet) → (p : Pair) → has_pair (record { trees = new; links = links }) p ≡ has_pair (record { trees = old; links = more }) p
+pub has-same : (old new : Store) (links more : ℕ) → HasSameTrees (forest_of old) (forest_of new) → IsForest (forest_with old links) → (p : Pair) → has_pair (forest_with new more) p ≡ has_pair (forest_with old links) p
 unfolding has_pair
-has-same old new links more same p = rw (same p.area.sheet) refl
+has-same old new links more same f p = rw (same.trees (kept_as old links 0 f.kept) p.area.sheet) refl
+
+pub same_itself : (a : Store) → HasSameTrees (forest_of a) (forest_of a)
+same_itself a = record { kept = λ k. k; trees = λ k sheet. refl }
+
+pub both_same : (a b c : Store) → HasSameTrees (forest_of a) (forest_of b) → HasSameTrees (forest_of b) (forest_of c) → HasSameTrees (forest_of a) (forest_of c)
+both_same a b c x y = record {
+  kept = λ k. y.kept (x.kept k);
+  trees = λ k sheet. y.trees (x.kept k) sheet ∙ x.trees k sheet;
+}

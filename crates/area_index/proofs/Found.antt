@@ -33,8 +33,8 @@ tops_rise p q e =
 pub all_end : (t : Shape) → IsLevel t → AllByRecursion (λ p. p.area.bottom ≤ bottom_of t) (in_order t)
 all_end empty a = tt
 all_end (fork l p h b r) a =
-    let e : b ≡ max p.area.bottom (max (bottom_of l) (bottom_of r)) = a.5 in
-    all_join _ (in_order l) (p ∷ in_order r)
+    let e : b ≡ max p.pair.area.bottom (max (bottom_of l) (bottom_of r)) = a.5 in
+    all_join _ (in_order l) (p.pair ∷ in_order r)
     (all_map _ (λ q. q.area.bottom ≤ b) (in_order l) (λ q k. omega arith) (all_end l a.0))
     (omega arith, all_map _ (λ q. q.area.bottom ≤ b) (in_order r) (λ q k. omega arith) (all_end r a.1))
 
@@ -69,21 +69,21 @@ none_at pairs cell a = ap (map (λ p. p.reader)) (drops (λ p. area_has p.area c
 pub found-is : (t : Shape) (cell : Cell) → IsLevel t → IsOrdered t → found t cell ≡ readers_at (in_order t) cell
 found-is empty cell a s = refl
 found-is (fork l p h b r) cell a s =
-    by (found-is l cell a.0 (sorted_front pair_cmp (in_order l) (p ∷ in_order r) s)) (found-is r cell a.1 (sorted_back pair_cmp (in_order l) p (in_order r) s)) (nat_lt b cell.row) refl where
-      right : found r cell ≡ readers_at (in_order r) cell → (w : Bool) → nat_lt cell.row p.area.top ≡ w → cond w [] (found r cell) ≡ readers_at (in_order r) cell
+    by (found-is l cell a.0 (sorted_front pair_cmp (in_order l) (p.pair ∷ in_order r) s)) (found-is r cell a.1 (sorted_back pair_cmp (in_order l) p.pair (in_order r) s)) (nat_lt b cell.row) refl where
+      right : found r cell ≡ readers_at (in_order r) cell → (w : Bool) → nat_lt cell.row p.pair.area.top ≡ w → cond w [] (found r cell) ≡ readers_at (in_order r) cell
       right ih true e =
-          let k : cell.row < p.area.top = ltb-true cell.row p.area.top e in
-          sym (none_at (in_order r) cell (all_map _ (λ q. area_has q.area cell ≡ false) (in_order r) (λ q g. begins_below q cell (let j = tops_rise p q g in omega arith)) (back_above pair_cmp (in_order l) p (in_order r) s)))
+          let k : cell.row < p.pair.area.top = ltb-true cell.row p.pair.area.top e in
+          sym (none_at (in_order r) cell (all_map _ (λ q. area_has q.area cell ≡ false) (in_order r) (λ q g. begins_below q cell (let j = tops_rise p.pair q g in omega arith)) (back_above pair_cmp (in_order l) p.pair (in_order r) s)))
       right ih false e = ih
 
-      by : found l cell ≡ readers_at (in_order l) cell → found r cell ≡ readers_at (in_order r) cell → (w : Bool) → nat_lt b cell.row ≡ w → cond w [] ((found l cell ++ found_here p cell) ++ cond (nat_lt cell.row p.area.top) [] (found r cell)) ≡ readers_at (in_order l ++ p ∷ in_order r) cell
+      by : found l cell ≡ readers_at (in_order l) cell → found r cell ≡ readers_at (in_order r) cell → (w : Bool) → nat_lt b cell.row ≡ w → cond w [] ((found l cell ++ found_here p.pair cell) ++ cond (nat_lt cell.row p.pair.area.top) [] (found r cell)) ≡ readers_at (in_order l ++ p.pair ∷ in_order r) cell
       by x y true e =
           let k : b < cell.row = ltb-true b cell.row e in
-          sym (none_at (in_order l ++ p ∷ in_order r) cell (all_map _ (λ q. area_has q.area cell ≡ false) (in_order l ++ p ∷ in_order r) (λ q g. ends_above q cell (omega arith)) (all_end (fork l p h b r) a)))
+          sym (none_at (in_order l ++ p.pair ∷ in_order r) cell (all_map _ (λ q. area_has q.area cell ≡ false) (in_order l ++ p.pair ∷ in_order r) (λ q g. ends_above q cell (omega arith)) (all_end (fork l p h b r) a)))
       by x y false e =
-          let m = right y (nat_lt cell.row p.area.top) refl in
+          let m = right y (nat_lt cell.row p.pair.area.top) refl in
           rw (x, m) (
-          Rattle.std.proofs.Common.append_assoc (readers_at (in_order l) cell) (found_here p cell) (readers_at (in_order r) cell)
-          ∙ ap (λ z. readers_at (in_order l) cell ++ z) (sym (here-is p cell (in_order r)))
-          ∙ sym (readers_at-append (in_order l) (p ∷ in_order r) cell)
+          Rattle.std.proofs.Common.append_assoc (readers_at (in_order l) cell) (found_here p.pair cell) (readers_at (in_order r) cell)
+          ∙ ap (λ z. readers_at (in_order l) cell ++ z) (sym (here-is p.pair cell (in_order r)))
+          ∙ sym (readers_at-append (in_order l) (p.pair ∷ in_order r) cell)
           )

@@ -5,7 +5,8 @@ use Rattle.std.specs.declared.cmp.Ordering.{Ordering}
 use Rattle.std.specs.declared.cmp.Ordering.TheVariants.{Less, Equal, Greater}
 use Rattle.std.specs.Ordering.{match_ordering}
 use Rattle.area_index.specs.declared.pairs.Pair.{Pair}
-use Rattle.area_index.specs.declared.trees.TheConstants.{LEVELS}
+use Rattle.area_index.specs.declared.nodes.Entry.{Entry}
+use Rattle.area_index.specs.declared.nodes.TheConstants.{LEVELS}
 use Rattle.area_index.specs.Pairs.{pair_cmp}
 use Rattle.area_index.specs.Shapes.{Shape, empty, fork, height_of, higher, node_of, raised, lean_left, lean_right, balanced, inserted, first_of, rest_of, joined, removed, IsLevel}
 
@@ -14,11 +15,11 @@ higher_one : (h : ℕ) → h < LEVELS → higher h ≡ h + 1
 unfolding higher
 higher_one h p = ap (λ b. cond b (h + 1) h) (lt-ltb h LEVELS p)
 
-height-node_of : (l : Shape) (p : Pair) (r : Shape) → max (height_of l) (height_of r) < LEVELS → height_of (node_of l p r) ≡ max (height_of l) (height_of r) + 1
+height-node_of : (l : Shape) (p : Entry) (r : Shape) → max (height_of l) (height_of r) < LEVELS → height_of (node_of l p r) ≡ max (height_of l) (height_of r) + 1
 unfolding node_of
 height-node_of l p r room = higher_one (max (height_of l) (height_of r)) room
 
-level-node_of : (l : Shape) (p : Pair) (r : Shape) → IsLevel l → IsLevel r → height_of l ≤ height_of r + 1 → height_of r ≤ height_of l + 1 → max (height_of l) (height_of r) < LEVELS → IsLevel (node_of l p r)
+level-node_of : (l : Shape) (p : Entry) (r : Shape) → IsLevel l → IsLevel r → height_of l ≤ height_of r + 1 → height_of r ≤ height_of l + 1 → max (height_of l) (height_of r) < LEVELS → IsLevel (node_of l p r)
 unfolding node_of
 level-node_of l p r a b c d room = (a, b, higher_one (max (height_of l) (height_of r)) room, c, d, refl)
 
@@ -28,7 +29,7 @@ pub record IsLevelWithin (t : Shape) (low high : ℕ) : Type 0 where
   pub not_lower : low ≤ height_of t
   pub not_higher : height_of t ≤ high
 
-level-raised : (l : Shape) (p : Pair) (m : Shape) (q : Pair) (r : Shape) → IsLevel l → IsLevel m → IsLevel r → height_of l ≡ height_of r → height_of m ≡ height_of l + 1 → height_of l + 2 ≤ LEVELS → IsLevelWithin (raised l p m q r) (height_of l + 2) (height_of l + 2)
+level-raised : (l : Shape) (p : Entry) (m : Shape) (q : Entry) (r : Shape) → IsLevel l → IsLevel m → IsLevel r → height_of l ≡ height_of r → height_of m ≡ height_of l + 1 → height_of l + 2 ≤ LEVELS → IsLevelWithin (raised l p m q r) (height_of l + 2) (height_of l + 2)
 unfolding raised
 level-raised l p empty q r a b c e f room = absurd (omega arith)
 level-raised l p (fork u x h w v) q r a b c e f room =
@@ -46,7 +47,7 @@ level-raised l p (fork u x h w v) q r a b c e f room =
       not_higher = omega arith;
     }
 
-level-lean_left : (l : Shape) (p : Pair) (h b : ℕ) (m : Shape) (q : Pair) (r : Shape) → IsLevel (fork l p h b m) → IsLevel r → h ≡ height_of r + 2 → h < LEVELS → IsLevelWithin (lean_left (fork l p h b m) q r) h (h + 1)
+level-lean_left : (l : Shape) (p : Entry) (h b : ℕ) (m : Shape) (q : Entry) (r : Shape) → IsLevel (fork l p h b m) → IsLevel r → h ≡ height_of r + 2 → h < LEVELS → IsLevelWithin (lean_left (fork l p h b m) q r) h (h + 1)
 unfolding lean_left
 level-lean_left l p h b m q r a c e room = by (nat_le (height_of m) (height_of l)) refl where
   g : h ≡ max (height_of l) (height_of m) + 1
@@ -77,7 +78,7 @@ level-lean_left l p h b m q r a c e room = by (nat_le (height_of m) (height_of l
       let s1 = s.not_lower in let s2 = s.not_higher in
       record { level = s.level; not_lower = omega arith; not_higher = omega arith }
 
-level-lean_right : (l : Shape) (p : Pair) (m : Shape) (q : Pair) (h b : ℕ) (r : Shape) → IsLevel l → IsLevel (fork m q h b r) → h ≡ height_of l + 2 → h < LEVELS → IsLevelWithin (lean_right l p (fork m q h b r)) h (h + 1)
+level-lean_right : (l : Shape) (p : Entry) (m : Shape) (q : Entry) (h b : ℕ) (r : Shape) → IsLevel l → IsLevel (fork m q h b r) → h ≡ height_of l + 2 → h < LEVELS → IsLevelWithin (lean_right l p (fork m q h b r)) h (h + 1)
 unfolding lean_right
 level-lean_right l p m q h b r c a e room = by (nat_le (height_of m) (height_of r)) refl where
   g : h ≡ max (height_of m) (height_of r) + 1
@@ -115,15 +116,15 @@ pub record SettlesTo (t : Shape) (l r : ℕ) : Type 0 where
   pub not_higher : height_of t ≤ max l r + 1
   pub kept : max l r + 1 ≤ height_of t + (l - (r + 1)) + (r - (l + 1))
 
-level-left : (l : Shape) (p : Pair) (r : Shape) → IsLevel l → IsLevel r → height_of l ≡ height_of r + 2 → height_of l < LEVELS → IsLevelWithin (lean_left l p r) (height_of l) (height_of l + 1)
+level-left : (l : Shape) (p : Entry) (r : Shape) → IsLevel l → IsLevel r → height_of l ≡ height_of r + 2 → height_of l < LEVELS → IsLevelWithin (lean_left l p r) (height_of l) (height_of l + 1)
 level-left empty p r a b e room = absurd (omega arith)
 level-left (fork l q h c m) p r a b e room = level-lean_left l q h c m p r a b e room
 
-level-right : (l : Shape) (p : Pair) (r : Shape) → IsLevel l → IsLevel r → height_of r ≡ height_of l + 2 → height_of r < LEVELS → IsLevelWithin (lean_right l p r) (height_of r) (height_of r + 1)
+level-right : (l : Shape) (p : Entry) (r : Shape) → IsLevel l → IsLevel r → height_of r ≡ height_of l + 2 → height_of r < LEVELS → IsLevelWithin (lean_right l p r) (height_of r) (height_of r + 1)
 level-right l p empty a b e room = absurd (omega arith)
 level-right l p (fork m q h c r) a b e room = level-lean_right l p m q h c r a b e room
 
-pub level-balanced : (l : Shape) (p : Pair) (r : Shape) → IsLevel l → IsLevel r → height_of l ≤ height_of r + 2 → height_of r ≤ height_of l + 2 → height_of l < LEVELS → height_of r < LEVELS → SettlesTo (balanced l p r) (height_of l) (height_of r)
+pub level-balanced : (l : Shape) (p : Entry) (r : Shape) → IsLevel l → IsLevel r → height_of l ≤ height_of r + 2 → height_of r ≤ height_of l + 2 → height_of l < LEVELS → height_of r < LEVELS → SettlesTo (balanced l p r) (height_of l) (height_of r)
 unfolding balanced
 level-balanced l p r a b c d room more = by (nat_lt (higher (height_of r)) (height_of l)) refl where
   one : higher (height_of r) ≡ height_of r + 1
@@ -158,13 +159,13 @@ level-balanced l p r a b c d room more = by (nat_lt (higher (height_of r)) (heig
       by_right (nat_lt (higher (height_of l)) (height_of r)) refl (omega arith)
 
 -- a pair more makes a tree one level higher at most
-pub level-inserted : (t : Shape) (p : Pair) → IsLevel t → height_of t + 1 < LEVELS → IsLevelWithin (inserted t p) (height_of t) (height_of t + 1)
+pub level-inserted : (t : Shape) (p : Entry) → IsLevel t → height_of t + 1 < LEVELS → IsLevelWithin (inserted t p) (height_of t) (height_of t + 1)
 level-inserted empty p a room =
     let e : height_of (node_of empty p empty) ≡ 1 = height-node_of empty p empty (omega arith) in
     record { level = level-node_of empty p empty tt tt (omega arith) (omega arith) (omega arith); not_lower = omega arith; not_higher = omega arith }
 level-inserted (fork l q h b r) p a room =
     let g : h ≡ max (height_of l) (height_of r) + 1 = a.2 in
-    by (level-inserted l p a.0 (omega arith)) (level-inserted r p a.1 (omega arith)) (pair_cmp p q) where
+    by (level-inserted l p a.0 (omega arith)) (level-inserted r p a.1 (omega arith)) (pair_cmp p.pair q.pair) where
       by : IsLevelWithin (inserted l p) (height_of l) (height_of l + 1) → IsLevelWithin (inserted r p) (height_of r) (height_of r + 1) → (o : Ordering) → IsLevelWithin (match_ordering o (balanced (inserted l p) q r) (node_of l q r) (balanced l q (inserted r p))) h (h + 1)
       by x y Less =
           let g : h ≡ max (height_of l) (height_of r) + 1 = a.2 in
@@ -193,7 +194,7 @@ pub record IsLevelBelow (t : Shape) (h : ℕ) : Type 0 where
   pub not_higher : height_of t ≤ h
   pub not_lower : h ≤ height_of t + 1
 
-level-rest_of : (l : Shape) (p : Pair) (r : Shape) → IsLevel l → IsLevel r → height_of l ≤ height_of r + 1 → height_of r ≤ height_of l + 1 → height_of l < LEVELS → height_of r < LEVELS → IsLevelBelow (rest_of l p r) (max (height_of l) (height_of r) + 1)
+level-rest_of : (l : Shape) (p : Entry) (r : Shape) → IsLevel l → IsLevel r → height_of l ≤ height_of r + 1 → height_of r ≤ height_of l + 1 → height_of l < LEVELS → height_of r < LEVELS → IsLevelBelow (rest_of l p r) (max (height_of l) (height_of r) + 1)
 level-rest_of empty p r a b c d room more = record { level = b; not_higher = omega arith; not_lower = omega arith }
 level-rest_of (fork l q h e m) p r a b c d room more =
     let g : h ≡ max (height_of l) (height_of m) + 1 = a.2 in
@@ -218,7 +219,7 @@ pub level-removed : (t : Shape) (p : Pair) → IsLevel t → height_of t < LEVEL
 level-removed empty p a room = record { level = tt; not_higher = omega arith; not_lower = omega arith }
 level-removed (fork l q h b r) p a room =
     let g : h ≡ max (height_of l) (height_of r) + 1 = a.2 in
-    by (level-removed l p a.0 (omega arith)) (level-removed r p a.1 (omega arith)) (pair_cmp p q) where
+    by (level-removed l p a.0 (omega arith)) (level-removed r p a.1 (omega arith)) (pair_cmp p q.pair) where
       by : IsLevelBelow (removed l p) (height_of l) → IsLevelBelow (removed r p) (height_of r) → (o : Ordering) → IsLevelBelow (match_ordering o (balanced (removed l p) q r) (joined l r) (balanced l q (removed r p))) h
       by x y Less =
           let g : h ≡ max (height_of l) (height_of r) + 1 = a.2 in

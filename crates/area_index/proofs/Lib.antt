@@ -5,5 +5,11 @@ mod InOrder
 mod Levels
 mod Found
 mod Bounds
+mod Standing
+mod Orders
+mod Turning
+mod TreeLists
+mod FreeNodes
+mod Kept
 mod Forests
 mod Readers

@@ -65,9 +65,9 @@ are_readers forest cell cells readers e same sorted = record {
   each = λ reader h.
       let f = each_reader (pairs_on forest cell.sheet) cell reader (subst (λ xs. is_among xs reader ≡ true) e (sym (same reader) ∙ h)) in
       let one : pair_at reader f.0.area ≡ f.0 = ap (λ r. pair_at r f.0.area) (sym f.2) in
-      (f.0.area, subst (λ p. list_any (same_pair p) (in_order (tree_in forest.trees p.area.sheet)) ≡ true) (sym one) (subst (λ s. list_any (same_pair f.0) (in_order (tree_in forest.trees s)) ≡ true) (same_sheet f.0.area cell f.3) f.1), f.3);
+      (f.0.area, subst (λ p. list_any (same_pair p) (in_order (tree_in forest p.area.sheet)) ≡ true) (sym one) (subst (λ s. list_any (same_pair f.0) (in_order (tree_in forest s)) ≡ true) (same_sheet f.0.area cell f.3) f.1), f.3);
   all = λ reader area h has.
-      same reader ∙ subst (λ xs. is_among xs reader ≡ true) (sym e) (all_readers (pairs_on forest cell.sheet) cell (pair_at reader area) (subst (λ s. list_any (same_pair (pair_at reader area)) (in_order (tree_in forest.trees s)) ≡ true) (sym (same_sheet area cell has)) h) has);
+      same reader ∙ subst (λ xs. is_among xs reader ≡ true) (sym e) (all_readers (pairs_on forest cell.sheet) cell (pair_at reader area) (subst (λ s. list_any (same_pair (pair_at reader area)) (in_order (tree_in forest s)) ≡ true) (sym (same_sheet area cell has)) h) has);
 }
 
 own_sheet : (pairs : List Pair) (sheet : ℕ) (p : Pair) → AllByRecursion (λ q. q.area.sheet ≡ sheet) pairs → list_any (same_pair p) pairs ≡ true → p.area.sheet ≡ sheet
@@ -82,4 +82,4 @@ pub own_pairs : (forest : Forest) (sheet : ℕ) → AllByRecursion (λ q. q.area
 unfolding has_pair
 own_pairs forest sheet a p h =
     let e = own_sheet (pairs_on forest sheet) sheet p a h in
-    (subst (λ s. list_any (same_pair p) (in_order (tree_in forest.trees s)) ≡ true) (sym e) h, e)
+    (subst (λ s. list_any (same_pair p) (in_order (tree_in forest s)) ≡ true) (sym e) h, e)

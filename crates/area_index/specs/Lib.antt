@@ -2,5 +2,6 @@
 pub mod Forests
 pub mod Pairs
 pub mod Shapes
-pub mod Views
+pub mod Slots
+pub mod Standing
 pub mod Walk

@@ -14,15 +14,15 @@ abbrev pub found : Shape → Cell → List Cell
 found empty cell = []
 found (fork l p h b r) cell =
     if nat_lt b cell.row then []
-    else ((found l cell ++ found_here p cell)
-    ++ (if nat_lt cell.row p.area.top then [] else found r cell))
+    else ((found l cell ++ found_here p.pair cell)
+    ++ (if nat_lt cell.row p.pair.area.top then [] else found r cell))
 
 -- the nodes that the walk looks at
 abbrev pub visits : Shape → ℕ → ℕ
 visits empty row = 0
 visits (fork l p h b r) row =
     if nat_lt b row then 1
-    else (1 + visits l row + (if nat_lt row p.area.top then 0 else visits r row))
+    else (1 + visits l row + (if nat_lt row p.pair.area.top then 0 else visits r row))
 
 -- whether the rows of the pair's area have the row
 abbrev pub rows_have : ℕ → Pair → Bool

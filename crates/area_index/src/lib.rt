@@ -3,10 +3,12 @@
 
 mod area_indexes;
 mod indexes;
+mod nodes;
 mod pairs;
+mod stores;
 mod trees;
 
 pub use area_indexes::AreaIndex;
 pub use cell_refs::Memory;
+pub use nodes::{LEVELS, Node};
 pub use pairs::Pair;
-pub use trees::{LEVELS, Node, Tree};

@@ -1,271 +1,286 @@
-ghost use Rattle.std.specs.Prelude.{◌≡◌, ◌+◌, ◌++◌, ◌≤◌, max, OnOk};
-ghost use Rattle.area_index.specs.Shapes.{balanced, bottom_of, empty, first_of, height_of, higher, inserted, joined, lean_left, lean_right, node_of, raised, removed, rest_of};
-ghost use Rattle.area_index.specs.Views.{shape_of};
+//! What is done to trees of nodes that are named by their numbers.
+
+ghost use Rattle.std.specs.Prelude.{◌≡◌, ◌+◌, ◌++◌, ◌∷◌, [], ◌≤◌, List, OnOk, length};
+ghost use Rattle.area_index.specs.Shapes.{Shape, balanced, depth_of, first_of, inserted, joined, lean_left, lean_right, raised, removed, rest_of};
+ghost use Rattle.area_index.specs.Standing.{AreParts, IsStanding, Part, Turns, alone, left_over, number_of, rooted, taken_out};
 ghost use Rattle.area_index.specs.Walk.{found, visits};
 
+use super::nodes::{Entry, NONE, Nodes, one_higher};
 use super::pairs::Pair;
 use cell_refs::{Cell, Memory, Steps};
 use std::cmp::Ordering;
-use std::mem;
 use std::sync::ledger::Ledger;
 
-/// A search tree of pairs.
-#[cycle(tree)]
-#[derive(Drop)]
-pub enum Tree {
-    Leaf,
-    Fork(Box<Node>),
+/// The root after a node was to be put in, and whether the node was used.
+#[derive(Clone, Copy)]
+pub struct Inserted {
+    pub root: u32,
+    pub is_used: bool,
 }
 
-/// A pair with the pairs on either side of it, the tree's height here and the greatest bottom row.
-#[cycle(tree)]
-#[derive(Drop)]
-pub struct Node {
-    left: Tree,
-    pair: Pair,
-    height: u64,
-    bottom: u32,
-    right: Tree,
+/// The root after a pair was to be taken out, and the number of its node.
+#[derive(Clone, Copy)]
+pub struct Removed {
+    pub root: u32,
+    pub taken: Option<u32>,
 }
 
-/// The greatest height that stands with a node.
-pub const LEVELS: u64 = 0x4000_0000_0000_0000;
-
-impl Node {
-    /// A node for a pair, with nothing below it.
-    pub fn new(pair: Pair) -> Node
-        ensures { result.pair ≡ pair }
-    {
-        Node {
-            left: Tree::Leaf,
-            pair,
-            height: 1,
-            bottom: pair.area.bottom,
-            right: Tree::Leaf,
-        }
-    }
-
-    /// The pair that stands here.
-    pub fn pair(&self) -> Pair
-        ensures { result ≡ self.now.pair }
-    {
-        self.pair
-    }
+/// The first node of a tree, and the root of the rest.
+#[derive(Clone, Copy)]
+pub struct First {
+    pub entry: Entry,
+    pub rest: u32,
 }
 
-impl Tree {
-    /// The number of its levels.
-    pub fn height(&self) -> u64
-        ensures { result ≡ height_of (shape_of self.now) }
-    {
-        match self {
-            Tree::Leaf => 0,
-            Tree::Fork(node) => node.height,
-        }
-    }
-
-    /// The greatest bottom row of its areas.
-    fn bottom(&self) -> u32
-        ensures { result ≡ bottom_of (shape_of self.now) }
-    {
-        match self {
-            Tree::Leaf => 0,
-            Tree::Fork(node) => node.bottom,
-        }
-    }
-
-    /// Puts a node at the place of its pair, unless the pair is there.
-    pub fn insert(self, spare: Box<Node>) -> Tree
-        ensures { shape_of result ≡ inserted (shape_of self) spare.value.pair }
-    {
-        match self {
-            Tree::Leaf => linked(spare, Tree::Leaf, Tree::Leaf),
-            Tree::Fork(mut node) => {
-                let left = mem::replace(&mut node.left, Tree::Leaf);
-                let right = mem::replace(&mut node.right, Tree::Leaf);
-                match spare.pair.order(&node.pair) {
-                    Ordering::Less => balance(node, left.insert(spare), right),
-                    Ordering::Equal => linked(node, left, right),
-                    Ordering::Greater => balance(node, left, right.insert(spare)),
+/// The tree with an entry's pair, unless the pair is there. It has that many levels at most.
+pub fn insert(nodes: &mut Nodes, root: u32, levels: u64, entry: Entry) -> Inserted
+    ensures count { length nodes.new.items.items ≡ length nodes.old.items.items }
+    ensures turns { (t : Shape) → depth_of t ≤ levels
+        → Turns nodes.old.items.items nodes.new.items.items
+        (alone entry.at ∷ rooted root t ∷ [])
+        (rooted result.root (inserted t entry) ∷ left_over result.is_used entry.at) }
+{
+    match nodes.node(root) {
+        Some(top) if 0 < levels => {
+            let here = Entry {
+                at: root,
+                pair: top.pair,
+            };
+            match entry.pair.order(&top.pair) {
+                Ordering::Less => {
+                    let left = insert(nodes, top.left, levels - 1, entry);
+                    Inserted {
+                        root: balance(nodes, here, left.root, top.right),
+                        is_used: left.is_used,
+                    }
+                }
+                Ordering::Equal => Inserted {
+                    root: nodes.link(here, top.left, top.right),
+                    is_used: false,
+                },
+                Ordering::Greater => {
+                    let right = insert(nodes, top.right, levels - 1, entry);
+                    Inserted {
+                        root: balance(nodes, here, top.left, right.root),
+                        is_used: right.is_used,
+                    }
                 }
             }
         }
+        _ => Inserted {
+            root: nodes.link(entry, NONE, NONE),
+            is_used: true,
+        },
     }
+}
 
-    /// Appends the readers whose area has a cell. A step is one node looked at, and nothing else reads nodes for it.
-    pub fn visit<L: Ledger>(
-        &self,
-        cell: Cell,
-        steps: &mut Steps<L>,
-        readers: &mut Vec<Cell>,
-    ) -> Result<(), Memory>
-        ensures found { OnOk result (readers.new.items
-            ≡ readers.old.items ++ found (shape_of self.now) cell) }
-        ensures steps { steps.new ≤ steps.old + visits (shape_of self.now) cell.row }
-    {
-        match self {
-            Tree::Leaf => Ok(()),
-            Tree::Fork(node) => {
-                steps.tick();
-                if node.bottom < cell.row {
-                    return Ok(());
+/// The tree without a pair. It has that many levels at most.
+pub fn remove(nodes: &mut Nodes, root: u32, levels: u64, pair: Pair) -> Removed
+    ensures count { length nodes.new.items.items ≡ length nodes.old.items.items }
+    ensures turns { (t : Shape) → depth_of t ≤ levels
+        → Turns nodes.old.items.items nodes.new.items.items
+        (rooted root t ∷ [])
+        (rooted result.root (removed t pair) ∷ taken_out result.taken) }
+{
+    match nodes.node(root) {
+        Some(top) if 0 < levels => {
+            let here = Entry {
+                at: root,
+                pair: top.pair,
+            };
+            match pair.order(&top.pair) {
+                Ordering::Less => {
+                    let left = remove(nodes, top.left, levels - 1, pair);
+                    Removed {
+                        root: balance(nodes, here, left.root, top.right),
+                        taken: left.taken,
+                    }
                 }
-                node.left.visit(cell, steps, readers)?;
-                if node.pair.area.contains(cell) {
-                    readers.push(node.pair.reader)?;
-                }
-                if cell.row < node.pair.area.top {
-                    return Ok(());
-                }
-                node.right.visit(cell, steps, readers)?;
-                Ok(())
-            }
-        }
-    }
-
-    /// Takes a pair out, where it is there.
-    pub fn remove(self, pair: &Pair) -> Tree
-        ensures { shape_of result ≡ removed (shape_of self) pair.now }
-    {
-        match self {
-            Tree::Leaf => Tree::Leaf,
-            Tree::Fork(mut node) => {
-                let left = mem::replace(&mut node.left, Tree::Leaf);
-                let right = mem::replace(&mut node.right, Tree::Leaf);
-                match pair.order(&node.pair) {
-                    Ordering::Less => balance(node, left.remove(pair), right),
-                    Ordering::Equal => join(left, right),
-                    Ordering::Greater => balance(node, left, right.remove(pair)),
+                Ordering::Equal => Removed {
+                    root: join(nodes, top.left, top.right, levels - 1),
+                    taken: Some(root),
+                },
+                Ordering::Greater => {
+                    let right = remove(nodes, top.right, levels - 1, pair);
+                    Removed {
+                        root: balance(nodes, here, top.left, right.root),
+                        taken: right.taken,
+                    }
                 }
             }
         }
+        _ => Removed { root, taken: None },
     }
 }
 
-/// One level more, up to the greatest height.
-#[tactic(auto, unfolding(crate::specs::Shapes::higher))]
-fn one_higher(height: u64) -> u64
-    ensures { result ≡ higher height }
+/// Appends the readers whose area has a cell. A step is one node looked at. The tree has that many levels at most.
+pub fn visit<L: Ledger>(
+    nodes: &Nodes,
+    root: u32,
+    levels: u64,
+    cell: Cell,
+    steps: &mut Steps<L>,
+    readers: &mut Vec<Cell>,
+) -> Result<(), Memory>
+    ensures found { OnOk result ((t : Shape) → depth_of t ≤ levels → root ≡ number_of t
+        → length nodes.now.items.items ≤ NONE → IsStanding nodes.now.items.items t
+        → readers.new.items ≡ readers.old.items ++ found t cell) }
+    ensures steps { (t : Shape) → depth_of t ≤ levels → root ≡ number_of t
+        → IsStanding nodes.now.items.items t
+        → steps.new ≤ steps.old + visits t cell.row }
 {
-    if height < LEVELS { height + 1 } else { height }
+    if root == NONE || levels == 0 {
+        return Ok(());
+    }
+    let Some(node) = nodes.look(root, steps) else {
+        return Ok(());
+    };
+    if node.bottom < cell.row {
+        return Ok(());
+    }
+    visit(nodes, node.left, levels - 1, cell, steps, readers)?;
+    if node.pair.area.contains(cell) {
+        readers.push(node.pair.reader)?;
+    }
+    if cell.row < node.pair.area.top {
+        return Ok(());
+    }
+    visit(nodes, node.right, levels - 1, cell, steps, readers)
 }
 
-/// The node with these sides.
-#[tactic(auto, unfolding(crate::specs::Shapes::node_of))]
-fn linked(mut node: Box<Node>, left: Tree, right: Tree) -> Tree
-    ensures { shape_of result ≡ node_of (shape_of left) node.value.pair (shape_of right) }
+/// An entry between two sides, whose heights differ by at most two, turned where one is too high.
+fn balance(nodes: &mut Nodes, entry: Entry, left: u32, right: u32) -> u32
+    ensures count { length nodes.new.items.items ≡ length nodes.old.items.items }
+    ensures turns { (l r : Shape) → Turns nodes.old.items.items nodes.new.items.items
+        (alone entry.at ∷ rooted left l ∷ rooted right r ∷ [])
+        (rooted result (balanced l entry r) ∷ []) }
 {
-    node.height = one_higher(left.height().max(right.height()));
-    node.bottom = node.pair.area.bottom.max(left.bottom().max(right.bottom()));
-    node.left = left;
-    node.right = right;
-    Tree::Fork(node)
-}
-
-/// The node with these sides, whose heights differ by at most two, turned where one is too high.
-#[tactic(auto, unfolding(crate::specs::Shapes::balanced))]
-fn balance(node: Box<Node>, left: Tree, right: Tree) -> Tree
-    ensures { shape_of result ≡ balanced (shape_of left) node.value.pair (shape_of right) }
-{
-    let (left_height, right_height) = (left.height(), right.height());
+    let (left_height, right_height) = (nodes.height(left), nodes.height(right));
     if one_higher(right_height) < left_height {
-        lean_to_left(node, left, right)
+        lean_to_left(nodes, entry, left, right)
     } else if one_higher(left_height) < right_height {
-        lean_to_right(node, left, right)
+        lean_to_right(nodes, entry, left, right)
     } else {
-        linked(node, left, right)
+        nodes.link(entry, left, right)
     }
 }
 
-/// The node with these sides, of which the left one is too high.
-#[tactic(auto, unfolding(crate::specs::Shapes::lean_left))]
-fn lean_to_left(node: Box<Node>, left: Tree, right: Tree) -> Tree
-    ensures { shape_of result ≡ lean_left (shape_of left) node.value.pair (shape_of right) }
+/// An entry between two sides, of which the left one is too high.
+fn lean_to_left(nodes: &mut Nodes, entry: Entry, left: u32, right: u32) -> u32
+    ensures count { length nodes.new.items.items ≡ length nodes.old.items.items }
+    ensures turns { (l r : Shape) → Turns nodes.old.items.items nodes.new.items.items
+        (alone entry.at ∷ rooted left l ∷ rooted right r ∷ [])
+        (rooted result (lean_left l entry r) ∷ []) }
 {
-    match left {
-        Tree::Leaf => linked(node, Tree::Leaf, right),
-        Tree::Fork(mut top) => {
-            let outer = mem::replace(&mut top.left, Tree::Leaf);
-            let inner = mem::replace(&mut top.right, Tree::Leaf);
-            if inner.height() <= outer.height() {
-                let right = linked(node, inner, right);
-                linked(top, outer, right)
+    match nodes.node(left) {
+        None => nodes.link(entry, left, right),
+        Some(top) => {
+            let here = Entry {
+                at: left,
+                pair: top.pair,
+            };
+            if nodes.height(top.right) <= nodes.height(top.left) {
+                let right = nodes.link(entry, top.right, right);
+                nodes.link(here, top.left, right)
             } else {
-                raise(top, outer, inner, node, right)
+                raise(nodes, here, top.left, top.right, entry, right)
             }
         }
     }
 }
 
-/// The node with these sides, of which the right one is too high.
-#[tactic(auto, unfolding(crate::specs::Shapes::lean_right))]
-fn lean_to_right(node: Box<Node>, left: Tree, right: Tree) -> Tree
-    ensures { shape_of result ≡ lean_right (shape_of left) node.value.pair (shape_of right) }
+/// An entry between two sides, of which the right one is too high.
+fn lean_to_right(nodes: &mut Nodes, entry: Entry, left: u32, right: u32) -> u32
+    ensures count { length nodes.new.items.items ≡ length nodes.old.items.items }
+    ensures turns { (l r : Shape) → Turns nodes.old.items.items nodes.new.items.items
+        (alone entry.at ∷ rooted left l ∷ rooted right r ∷ [])
+        (rooted result (lean_right l entry r) ∷ []) }
 {
-    match right {
-        Tree::Leaf => linked(node, left, Tree::Leaf),
-        Tree::Fork(mut top) => {
-            let inner = mem::replace(&mut top.left, Tree::Leaf);
-            let outer = mem::replace(&mut top.right, Tree::Leaf);
-            if inner.height() <= outer.height() {
-                let left = linked(node, left, inner);
-                linked(top, left, outer)
+    match nodes.node(right) {
+        None => nodes.link(entry, left, right),
+        Some(top) => {
+            let here = Entry {
+                at: right,
+                pair: top.pair,
+            };
+            if nodes.height(top.left) <= nodes.height(top.right) {
+                let left = nodes.link(entry, left, top.left);
+                nodes.link(here, left, top.right)
             } else {
-                raise(node, left, inner, top, outer)
+                raise(nodes, entry, left, top.left, here, top.right)
             }
         }
     }
 }
 
-/// Two nodes with the tree between them, whose root is raised above both.
-#[tactic(auto, unfolding(crate::specs::Shapes::raised))]
-fn raise(low: Box<Node>, left: Tree, inner: Tree, high: Box<Node>, right: Tree) -> Tree
-    ensures { shape_of result ≡ raised (shape_of left) low.value.pair (shape_of inner)
-        high.value.pair (shape_of right) }
+/// Two entries with the tree between them, whose root is raised above both.
+fn raise(nodes: &mut Nodes, low: Entry, left: u32, inner: u32, high: Entry, right: u32) -> u32
+    ensures count { length nodes.new.items.items ≡ length nodes.old.items.items }
+    ensures turns { (l m r : Shape) → Turns nodes.old.items.items nodes.new.items.items
+        (alone low.at ∷ rooted left l ∷ rooted inner m ∷ alone high.at ∷ rooted right r ∷ [])
+        (rooted result (raised l low m high r) ∷ []) }
 {
-    match inner {
-        Tree::Leaf => {
-            let left = linked(low, left, Tree::Leaf);
-            linked(high, left, right)
+    match nodes.node(inner) {
+        None => {
+            let left = nodes.link(low, left, inner);
+            nodes.link(high, left, right)
         }
-        Tree::Fork(mut top) => {
-            let before = mem::replace(&mut top.left, Tree::Leaf);
-            let after = mem::replace(&mut top.right, Tree::Leaf);
-            let left = linked(low, left, before);
-            let right = linked(high, after, right);
-            linked(top, left, right)
+        Some(top) => {
+            let here = Entry {
+                at: inner,
+                pair: top.pair,
+            };
+            let left = nodes.link(low, left, top.left);
+            let right = nodes.link(high, top.right, right);
+            nodes.link(here, left, right)
         }
     }
 }
 
-/// Two trees as one.
-fn join(left: Tree, right: Tree) -> Tree
-    ensures { shape_of result ≡ joined (shape_of left) (shape_of right) }
+/// Two trees as one. The right one has that many levels at most.
+fn join(nodes: &mut Nodes, left: u32, right: u32, levels: u64) -> u32
+    ensures count { length nodes.new.items.items ≡ length nodes.old.items.items }
+    ensures turns { (l r : Shape) → depth_of r ≤ levels
+        → Turns nodes.old.items.items nodes.new.items.items
+        (rooted left l ∷ rooted right r ∷ [])
+        (rooted result (joined l r) ∷ []) }
 {
-    match right {
-        Tree::Leaf => left,
-        Tree::Fork(mut node) => {
-            let before = mem::replace(&mut node.left, Tree::Leaf);
-            let after = mem::replace(&mut node.right, Tree::Leaf);
-            let (first, rest) = take_first(node, before, after);
-            balance(first, left, rest)
+    match nodes.node(right) {
+        None => left,
+        Some(top) => {
+            let here = Entry {
+                at: right,
+                pair: top.pair,
+            };
+            let first = take_first(nodes, here, top.left, top.right, levels);
+            balance(nodes, first.entry, left, first.rest)
         }
     }
 }
 
-/// The first node of the tree that a node has with these sides, and what is left.
-fn take_first(node: Box<Node>, left: Tree, right: Tree) -> (Box<Node>, Tree)
-    ensures first { result.0.value.pair ≡ first_of (shape_of left) node.value.pair }
-    ensures rest { shape_of result.1
-        ≡ rest_of (shape_of left) node.value.pair (shape_of right) }
+/// The first entry of the tree that an entry has with these sides, and what is left. It has that many levels at most.
+fn take_first(nodes: &mut Nodes, entry: Entry, left: u32, right: u32, levels: u64) -> First
+    ensures count { length nodes.new.items.items ≡ length nodes.old.items.items }
+    ensures first { (l : Shape) (rest : List Part) → depth_of l ≤ levels
+        → AreParts nodes.old.items.items (rooted left l ∷ rest)
+        → first_of l entry ≡ result.entry }
+    ensures rest { (l r : Shape) → depth_of l ≤ levels
+        → Turns nodes.old.items.items nodes.new.items.items
+        (alone entry.at ∷ rooted left l ∷ rooted right r ∷ [])
+        (alone result.entry.at ∷ rooted result.rest (rest_of l entry r) ∷ []) }
 {
-    match left {
-        Tree::Leaf => (node, right),
-        Tree::Fork(mut lower) => {
-            let before = mem::replace(&mut lower.left, Tree::Leaf);
-            let after = mem::replace(&mut lower.right, Tree::Leaf);
-            let (first, rest) = take_first(lower, before, after);
-            (first, balance(node, rest, right))
+    match nodes.node(left) {
+        Some(top) if 0 < levels => {
+            let lower = Entry {
+                at: left,
+                pair: top.pair,
+            };
+            let first = take_first(nodes, lower, top.left, top.right, levels - 1);
+            First {
+                entry: first.entry,
+                rest: balance(nodes, entry, first.rest, right),
+            }
         }
+        _ => First { entry, rest: right },
     }
 }

@@ -118,7 +118,7 @@ fn put_in(
     index: &mut AreaIndex,
     reader: Cell,
     areas: Vec<Area>,
-    nodes: Vec<Box<Node>>,
+    nodes: Vec<Node>,
 ) -> Result<(), Vec<Area>>
     requires ready { IsReady index.old (length nodes.items) }
     ensures entries { OnOk result (entries.new.entries

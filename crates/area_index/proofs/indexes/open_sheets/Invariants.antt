@@ -1,10 +1,11 @@
-use Rattle.std.proofs.Common.{◌≡◌, ℕ, ◌-◌, length}
-use Rattle.area_index.specs.Forests.{tree_in}
+use Rattle.std.proofs.Common.{◌≡◌, ◌-◌, length}
+use Rattle.area_index.specs.Forests.{HasSameTrees, forest_of}
 use Rattle.area_index.proofs.indexes.open_sheets.Given as goal
 
--- the trees are those that were there
-abbrev pub invariant-loop-trees : goal.invariant-loop-trees
-invariant-loop-trees l = (sheet : ℕ) → tree_in l.trees.items sheet ≡ tree_in l.fn.trees.items sheet
+-- the trees and nodes are those that were there
+abbrev pub invariant-loop-store : goal.invariant-loop-store
+invariant-loop-store l = HasSameTrees (forest_of l.fn.store) (forest_of l.store)
+    × (l.store.nodes ≡ l.fn.store.nodes) × (l.store.free ≡ l.fn.store.free)
 
-abbrev pub decreases-loop-trees : goal.decreases-loop-trees
-decreases-loop-trees l = 256 - length l.trees.items
+abbrev pub decreases-loop-store : goal.decreases-loop-store
+decreases-loop-store l = 256 - length l.store.trees.items
