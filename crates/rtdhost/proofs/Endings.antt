@@ -51,10 +51,11 @@ ok_read status words all before left written ended is = (as_status status status
 pub ok_within : (status : Status) (words : List (List ℕ)) (all : List ℕ) (before left written : Option (List ℕ)) → HasEnded status words all before left written → status ≡ statuses.Ok → length all ≤ 67108864
 ok_within status words all before left written ended is = (as_status status statuses.Ok words all before left written ended is).1.within
 
-pub read_answered : (status : Status) (words : List (List ℕ)) (all : List ℕ) (before left written written' : Option (List ℕ)) → HasEnded status words all before left written → status ≡ statuses.ReadFault → Keeps written written' → (n : ℕ) × (left ≡ Some (drop n all)) × Appends before (replies_from program_terms first_state (whole_lines (take n all))) written'
+pub read_answered : (status : Status) (words : List (List ℕ)) (all : List ℕ) (before left written written' : Option (List ℕ)) → HasEnded status words all before left written → status ≡ statuses.ReadFault → Keeps written written'
+    → (n : ℕ) × (left ≡ Some (drop n all)) × Appends before (replies_from program_terms first_state (whole_lines (take n all))) written' × (commands_in (whole_lines (take n all)) ≤ program_terms.limit)
 read_answered status words all before left written written' ended is kept =
     let stopped = (as_status status statuses.ReadFault words all before left written ended is).1.1 in
-    (stopped.0, stopped.1, Appends-kept before written written' _ stopped.2 kept)
+    (stopped.0, stopped.1, Appends-kept before written written' _ stopped.2 kept, stopped.3)
 
 pub limit_passed : (status : Status) (words : List (List ℕ)) (all : List ℕ) (before left written : Option (List ℕ)) → HasEnded status words all before left written → status ≡ statuses.InputLimit → 67108864 < length all
 limit_passed status words all before left written ended is = (as_status status statuses.InputLimit words all before left written ended is).1.1.0
@@ -62,6 +63,9 @@ limit_passed status words all before left written ended is = (as_status status s
 pub limit_answered : (status : Status) (words : List (List ℕ)) (all : List ℕ) (before left written written' : Option (List ℕ)) → HasEnded status words all before left written → status ≡ statuses.InputLimit → Keeps written written' → Appends before (replies_from program_terms first_state (whole_lines (take 67108864 all))) written'
 limit_answered status words all before left written written' ended is kept =
     Appends-kept before written written' _ (as_status status statuses.InputLimit words all before left written ended is).1.1.1 kept
+
+pub limit_fits : (status : Status) (words : List (List ℕ)) (all : List ℕ) (before left written : Option (List ℕ)) → HasEnded status words all before left written → status ≡ statuses.InputLimit → commands_in (whole_lines (take 67108864 all)) ≤ program_terms.limit
+limit_fits status words all before left written ended is = (as_status status statuses.InputLimit words all before left written ended is).1.1.2
 
 pub ok_fits : (status : Status) (words : List (List ℕ)) (all : List ℕ) (before left written : Option (List ℕ)) → HasEnded status words all before left written → status ≡ statuses.Ok → commands_in (lines_of all) ≤ program_terms.limit
 ok_fits status words all before left written ended is = (as_status status statuses.Ok words all before left written ended is).1.fits

@@ -41,11 +41,13 @@ whole all left written written' desk' run_faults.Read had = (
   had.read.1,
   subst (λ (ls : List (List ℕ)). Appends written (replies_from program_terms first_state ls) written') had.read.2
       (answered_steady sample_answer had.lines first_desk desk' written written' refl had.answered),
+  subst (λ ls. commands_in ls ≤ 1000000) had.read.2 (omega (arith, had.answered.are.fits)),
 )
 whole all left written written' desk' run_faults.Limit had = (
   had.read.0,
   subst (λ (ls : List (List ℕ)). Appends written (replies_from program_terms first_state ls) written') had.read.1
       (answered_steady sample_answer had.lines first_desk desk' written written' refl had.answered),
+  subst (λ ls. commands_in ls ≤ 1000000) had.read.1 (omega (arith, had.answered.are.fits)),
 )
 whole all left written written' desk' run_faults.Write had = tt
 whole all left written written' desk' run_faults.Memory had = tt

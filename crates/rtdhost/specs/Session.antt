@@ -17,12 +17,15 @@ pub record HasFinished (all : List ℕ) (before left written : Option (List ℕ)
   pub wrote : Appends before (replies_from program_terms first_state (lines_of all)) written
 
 -- The answers to the whole lines among the bytes that were taken are written, where the source failed or had too many
--- bytes; the answers up to the first refused command are, where the lines say too many commands.
+-- bytes, and these say no more commands than are answered; the answers up to the first refused command are, where the
+-- lines say too many commands.
 abbrev pub HasAnsweredWhole : RunFault → List ℕ → Option (List ℕ) → Option (List ℕ) → Option (List ℕ) → Type 0
 HasAnsweredWhole run_faults.Read all before left written =
     (n : ℕ) × (left ≡ Some (drop n all)) × Appends before (replies_from program_terms first_state (whole_lines (take n all))) written
+    × (commands_in (whole_lines (take n all)) ≤ program_terms.limit)
 HasAnsweredWhole run_faults.Limit all before left written =
     (MAX_INPUT < length all) × Appends before (replies_from program_terms first_state (whole_lines (take MAX_INPUT all))) written
+    × (commands_in (whole_lines (take MAX_INPUT all)) ≤ program_terms.limit)
 HasAnsweredWhole run_faults.Write all before left written = Unit {0}
 HasAnsweredWhole run_faults.Memory all before left written = Unit {0}
 HasAnsweredWhole run_faults.Full all before left written =

@@ -105,18 +105,23 @@ pub fn rtd_host_plain<I: Source, O: Sink>(
     ensures read_fault { result ≡ Status.ReadFault → Rose (I.faults src.old) (I.faults src.new) }
     ensures write_fault { result ≡ Status.WriteFault → Rose (O.faults out.old) (O.faults out.new) }
 
-    // Before a failed read and at the limit, all whole lines of the bytes that were taken were answered.
+    // Before a failed read and at the limit, all whole lines of the bytes that were taken were answered, and these say no
+    // more commands than are.
     ensures read_answered { (input : List ℕ) → I.remaining src.old ≡ Some input
         → result ≡ Status.ReadFault
         → (n : ℕ) × (I.remaining src.new ≡ Some (drop n input))
         × Appends (O.written out.old) (replies_from program_terms first_state (whole_lines (take n input)))
-        (O.written out.new) }
+        (O.written out.new)
+        × (commands_in (whole_lines (take n input)) ≤ program_terms.limit) }
     ensures limit { (input : List ℕ) → I.remaining src.old ≡ Some input → result ≡ Status.InputLimit
         → MAX_INPUT < length input }
     ensures limit_answered { (input : List ℕ) → I.remaining src.old ≡ Some input
         → result ≡ Status.InputLimit
         → Appends (O.written out.old) (replies_from program_terms first_state
         (whole_lines (take MAX_INPUT input))) (O.written out.new) }
+    ensures limit_commands { (input : List ℕ) → I.remaining src.old ≡ Some input
+        → result ≡ Status.InputLimit
+        → commands_in (whole_lines (take MAX_INPUT input)) ≤ program_terms.limit }
     ensures within { (input : List ℕ) → I.remaining src.old ≡ Some input → result ≡ Status.Ok
         → length input ≤ MAX_INPUT }
 

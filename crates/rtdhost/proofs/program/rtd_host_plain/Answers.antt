@@ -1,5 +1,5 @@
 use Rattle.rtdhost.specs.Words.{texts}
-use Rattle.rtdhost.proofs.Endings.{ok_wrote, ok_read, ok_fits, ok_within, full_passed, full_answered, read_answered, limit_passed, limit_answered, prefix_wrote, no_cause, writes_stand_at_end, reads_stand_or}
+use Rattle.rtdhost.proofs.Endings.{ok_wrote, ok_read, ok_fits, ok_within, full_passed, full_answered, read_answered, limit_passed, limit_answered, limit_fits, prefix_wrote, no_cause, writes_stand_at_end, reads_stand_or}
 use Rattle.rtdhost.proofs.program.rtd_host_plain.Goals as goal
 
 pub returns-in-Ok-clause-ok_written : goal.returns-in-Ok-clause-ok_written
@@ -21,6 +21,10 @@ returns-in-Ok-clause-limit g c input told is =
 pub returns-in-Ok-clause-limit_answered : goal.returns-in-Ok-clause-limit_answered
 returns-in-Ok-clause-limit_answered g c input told is =
     limit_answered c.respond-status.result (texts c.args.words.now) input (g.O.Sink.written c.args.out.now) _ (g.O.Sink.written c.respond-status.new.out) _ (c.respond-status.ensures.ended input told) is c.finish.ensures.kept
+
+pub returns-in-Ok-clause-limit_commands : goal.returns-in-Ok-clause-limit_commands
+returns-in-Ok-clause-limit_commands g c input told is =
+    limit_fits c.respond-status.result (texts c.args.words.now) input (g.O.Sink.written c.args.out.now) _ (g.O.Sink.written c.respond-status.new.out) (c.respond-status.ensures.ended input told) is
 
 pub returns-in-Ok-clause-within : goal.returns-in-Ok-clause-within
 returns-in-Ok-clause-within g c input told is =
