@@ -126,7 +126,7 @@ chain-among entries due numbers chain = record {
 
 -- ---- moved
 
-insert_has : (xs : List ℕ) (i x y : ℕ) → i ≤ length xs → has (insert xs i x) y ≡ (nat_eq y x || has xs y)
+pub insert_has : (xs : List ℕ) (i x y : ℕ) → i ≤ length xs → has (insert xs i x) y ≡ (nat_eq y x || has xs y)
 insert_has xs zero x y h = refl
 insert_has [] (suc i) x y h = absurd (omega arith)
 insert_has (z ∷ zs) (suc i) x y h = ap (λ b. nat_eq y z || b) (insert_has zs i x y (omega arith)) ∙ exchange (nat_eq y z) (nat_eq y x) (has zs y)
@@ -156,7 +156,7 @@ filter_without p (z ∷ zs) x fails = elim (z == x) as (λ b. (z == x) ≡ b →
   | false ↦ λ e. ap (λ ys. cond (p z) (z ∷ ys) ys) (filter_without p zs x fails)
 ] refl
 
-gone : (xs : List ℕ) (x : ℕ) → has (without xs x) x ≡ false
+pub gone : (xs : List ℕ) (x : ℕ) → has (without xs x) x ≡ false
 gone xs x = has-filter (λ y. not (y == x)) xs x ∙ never (has xs x) (x == x) (itself x)
   where
     never : (a b : Bool) → b ≡ true → (a && not b) ≡ false

@@ -1,6 +1,9 @@
 ghost use Rattle.std.specs.Prelude.{◌≡◌};
 
-use super::lists::{flag, make_room, place_of, push_flagged, take_out};
+use super::cells::{cell_of, make_room};
+use super::labels::{label_at_end, label_behind, label_of, sort_back};
+use super::links::{Links, list};
+use super::marks::{mark, take_first};
 use cell_refs::{Memory, Steps};
 use std::alloc::Global;
 use std::marker::Model;
@@ -9,24 +12,28 @@ use std::sync::ledger::Ledger;
 /// Numbers in an order, each once, of which some are due.
 #[derive(Drop)]
 pub struct Chain {
-    order: Vec<u32>,
-    /// The last one that is due first. It has room for the whole order.
+    links: Links,
+    /// The label of each entry.
+    labels: Vec<u64>,
+    /// Whether a number is an entry.
+    known: Vec<bool>,
+    /// The last one that is due first, and some that no longer are. It has room for the whole order.
     due: Vec<u32>,
-    /// Room for a flag for each number up to the greatest in the order.
-    flags: Vec<bool>,
+    /// Whether an entry is due.
+    marks: Vec<bool>,
 }
 
 impl Model for Chain {
-    ghost use Rattle.std.specs.Prelude.{ℕ, ◌≡◌, ◌<◌, ◌≤◌, true, length, reverse, vec_len, vec_capacity};
-    ghost use Rattle.calc_chain.specs.Chain.{IsChain, Order, has};
+    ghost use Rattle.std.specs.Prelude.{vec_capacity};
+    ghost use Rattle.calc_chain.specs.Chain.{Order};
+    ghost use Rattle.calc_chain.specs.Links.{IsKept, marked};
 
     ghost Value = { Order };
 
-    ghost view = { λ c. record { entries = c.order.items; due = reverse c.due.items } };
+    ghost view = { λ c. record { entries = c.links; due = marked c.due.items c.marks.items } };
 
-    ghost invariant = { λ c. (vec_len c.order ≤ vec_capacity c.due)
-        × ((x : ℕ) → has c.order.items x ≡ true → x < length c.flags.items)
-        × IsChain (record { entries = c.order.items; due = reverse c.due.items }) };
+    ghost invariant = { λ c. IsKept c.links c.labels.items c.due.items c.known.items
+        c.marks.items (vec_capacity c.due) };
 }
 
 impl Chain {
@@ -39,9 +46,11 @@ impl Chain {
         ensures { result ≡ record { entries = []; due = [] } }
     {
         Chain {
-            order: Vec::new(alloc),
+            links: Links::new(alloc),
+            labels: Vec::new(alloc),
+            known: Vec::new(alloc),
             due: Vec::new(alloc),
-            flags: Vec::new(alloc),
+            marks: Vec::new(alloc),
         }
     }
 
@@ -52,10 +61,15 @@ impl Chain {
             (self.new ≡ record self.old { entries = self.old.entries ++ x ∷ [] }) }
         ensures refused { OnErr result (self.new ≡ self.old) }
     {
-        let more = self.order.len() + 1 - self.due.len();
+        let more = (self.links.len() + 1).saturating_sub(self.due.len());
         self.due.reserve(more)?;
-        make_room(&mut self.flags, x)?;
-        self.order.push(x)?;
+        make_room(&mut self.labels, x, 0)?;
+        make_room(&mut self.known, x, false)?;
+        make_room(&mut self.marks, x, false)?;
+        let label = label_at_end(&self.links, &mut self.labels);
+        self.links.push(x)?;
+        self.labels[x as usize] = label;
+        self.known[x as usize] = true;
         Ok(())
     }
 
@@ -66,8 +80,11 @@ impl Chain {
           due = without self.old.due x;
         } }
     {
-        take_out(&mut self.order, x);
-        take_out(&mut self.due, x);
+        if cell_of(&self.known, x, false) {
+            self.links.take_out(x);
+            self.known[x as usize] = false;
+            self.marks[x as usize] = false;
+        }
     }
 
     /// Makes these entries due, and no others. It takes no memory.
@@ -76,9 +93,11 @@ impl Chain {
         requires once { IsDistinct nat_eq due.now }
         ensures { self.new ≡ record self.old { due = entries_among self.old.entries due.now } }
     {
-        flag(&mut self.flags, due);
+        mark(&mut self.marks, &self.due, false);
         self.due.clear();
-        push_flagged(&self.order, &self.flags, &mut self.due);
+        let _ = self.due.extend_from_slice(due);
+        mark(&mut self.marks, due, true);
+        sort_back(&self.labels, &mut self.due);
     }
 
     /// The first entry that is due, which then is due no longer; None exactly where none is. It takes no memory.
@@ -88,7 +107,7 @@ impl Chain {
         ensures tick { steps.new ≡ steps.old + 1 }
     {
         steps.tick();
-        self.due.pop()
+        take_first(&mut self.due, &mut self.marks)
     }
 
     /// Whether an entry stands behind another.
@@ -98,7 +117,7 @@ impl Chain {
         requires second { has self.now.entries y ≡ true }
         ensures { result ≡ is_behind self.now.entries x y }
     {
-        place_of(&self.order, y) < place_of(&self.order, x)
+        label_of(&self.labels, y) < label_of(&self.labels, x)
     }
 
     /// Moves an entry that isn't due directly behind another, where it doesn't stand behind it. It takes no memory.
@@ -115,9 +134,9 @@ impl Chain {
         if self.behind(x, y) {
             return;
         }
-        take_out(&mut self.order, x);
-        let place = place_of(&self.order, y);
-        let _ = self.order.insert(place + 1, x);
+        let label = label_behind(&self.links, &mut self.labels, y);
+        self.links.move_behind(x, y);
+        self.labels[x as usize] = label;
     }
 
     /// The entries, in chain order.
@@ -125,8 +144,6 @@ impl Chain {
         ensures entries { IfOk result (λ list. list.items ≡ self.now.entries) }
         ensures chain { IsChain self.now }
     {
-        let mut list = Vec::new(alloc);
-        list.extend_from_slice(&self.order)?;
-        Ok(list)
+        list(&self.links, alloc)
     }
 }

@@ -1,8 +1,12 @@
 //! The calculation chain: the order in which formula cells are looked at, and which of them are due.
 #![tactic(auto)]
 
+mod cells;
 mod chains;
-mod lists;
+mod labels;
+mod links;
+mod marks;
+mod ways;
 #[cfg(test)]
 mod tests;
 

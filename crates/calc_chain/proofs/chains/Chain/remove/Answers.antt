@@ -1,24 +1,27 @@
-use Rattle.std.proofs.Common.{◌≡◌, true, not, ◌==◌, arith, ap, subst, ◌∙◌, length, reverse}
+use Rattle.std.proofs.Common.{◌≡◌, ◌∙◌, ap, sym, subst, true, false}
+use Rattle.std.specs.Prelude.{slice_index_or, slice_set}
 use Rattle.calc_chain.specs.Chain.{has, without}
-use Rattle.calc_chain.proofs.ListLaws.{filter-short}
-use Rattle.calc_chain.proofs.ChainLaws.{chain-same, chain-without, has-without, turned-without}
+use Rattle.calc_chain.specs.Links.{marked}
+use Rattle.calc_chain.proofs.KeptLaws.{kept_as, kept_without, marked_cleared, none_without}
 use Rattle.calc_chain.proofs.chains.Chain.remove.Goals as goal
 
 pub invariant_of-self : goal.invariant_of-self
 invariant_of-self c =
-    let short = filter-short (λ y. not (y == c.args.x)) c.self.inside.order.items in
-    let fewer = ap length c.take_out.ensures.left in
-    let room = c.self.invariant.0 in
-    let same = c.take_out-2.ensures.room in (
-      omega (arith, short, fewer, room, same),
-      λ q h. c.self.invariant.1 q (has-without c.self.inside.order.items c.args.x q (subst (λ xs. has xs q ≡ true) c.take_out.ensures.left h)),
-      chain-same _ _ _ _ c.take_out.ensures.left (ap reverse c.take_out-2.ensures.left ∙ turned-without c.self.inside.due.items c.args.x) (chain-without _ _ c.args.x c.self.invariant.2),
-    )
+    let there : has c.self.inside.links c.args.x ≡ true = sym (c.self.invariant.knows c.args.x) ∙ sym (c.cell_of.ensures ∙ ap (λ xs. slice_index_or xs c.args.x false) c.deref.ensures.value) ∙ c.if-cell_of.true in
+    kept_as _ c.take_out.ensures (kept_without c.args.x c.self.invariant there)
 
-pub returns : goal.returns
-returns c =
-    let entries = c.take_out.ensures.left in
-    let due = ap reverse c.take_out-2.ensures.left ∙ turned-without c.self.inside.due.items c.args.x in
-    ap (λ xs. record { entries = xs; due = reverse c.take_out-2.new.numbers.items }) entries
-    ∙ ap (λ ys. record { entries = without c.self.inside.order.items c.args.x; due = ys }) due
+pub returns-then-cell_of : goal.returns-then-cell_of
+returns-then-cell_of c =
+    let there : has c.self.inside.links c.args.x ≡ true = sym (c.self.invariant.knows c.args.x) ∙ sym (c.cell_of.ensures ∙ ap (λ xs. slice_index_or xs c.args.x false) c.deref.ensures.value) ∙ c.if-cell_of.true in
+    ap (λ xs. record { entries = xs; due = marked c.self.inside.due.items (slice_set c.self.inside.marks.items c.args.x false) }) c.take_out.ensures
+    ∙ ap (λ ys. record { entries = without c.self.inside.links c.args.x; due = ys }) (marked_cleared c.self.inside.due.items c.self.inside.marks.items c.args.x (c.self.invariant.fits c.args.x there))
+    ∙ ap (λ v. record { entries = without v.entries c.args.x; due = without v.due c.args.x }) c.self.view_is
+
+pub returns-else-cell_of : goal.returns-else-cell_of
+returns-else-cell_of c =
+    let none : has c.self.inside.links c.args.x ≡ false = sym (c.self.invariant.knows c.args.x) ∙ sym (c.cell_of.ensures ∙ ap (λ xs. slice_index_or xs c.args.x false) c.deref.ensures.value) ∙ c.if-cell_of.false in
+    let w = none_without c.args.x c.self.invariant none in
+    sym c.self.view_is
+    ∙ ap (λ xs. record { entries = xs; due = marked c.self.inside.due.items c.self.inside.marks.items }) (sym w.0)
+    ∙ ap (λ ys. record { entries = without c.self.inside.links c.args.x; due = ys }) (sym w.1)
     ∙ ap (λ v. record { entries = without v.entries c.args.x; due = without v.due c.args.x }) c.self.view_is
