@@ -182,15 +182,15 @@ rising_same_list label [] (y ∷ ys) h k there back = absurd (let e : false ≡ 
 rising_same_list label (x ∷ xs) [] h k there back = absurd (let e : false ≡ true = there x (has_head x xs) in cc)
 rising_same_list label (x ∷ xs) (y ∷ ys) h k there back =
     let is : x ≡ y = ⊎_elim
-        (λ same. same_number x y same)
-        (λ later. ⊎_elim
-            (λ same. sym (same_number y x same))
-            (λ last. absurd (let a = k.0 x later in let b = h.0 y last in omega (arith, a, b)))
-            (or_cases (nat_eq y x) (has xs y) (back y (has_head y ys))))
-        (or_cases (nat_eq x y) (has ys x) (there x (has_head x xs))) in
+    (λ same. same_number x y same)
+    (λ later. ⊎_elim
+    (λ same. sym (same_number y x same))
+    (λ last. absurd (let a = k.0 x later in let b = h.0 y last in omega (arith, a, b)))
+    (or_cases (nat_eq y x) (has xs y) (back y (has_head y ys))))
+    (or_cases (nat_eq x y) (has ys x) (there x (has_head x xs))) in
     let rest = rising_same_list label xs ys h.1 k.1
-        (λ z m. has_later y z ys (there z (has_more x z xs m)) (λ e. absurd (let a = h.0 z m in let b : label z ≡ label x = ap label (sym e ∙ sym is) in omega (arith, a, b))))
-        (λ z m. has_later x z xs (back z (has_more y z ys m)) (λ e. absurd (let a = k.0 z m in let b : label z ≡ label y = ap label (sym e ∙ is) in omega (arith, a, b)))) in
+    (λ z m. has_later y z ys (there z (has_more x z xs m)) (λ e. absurd (let a = h.0 z m in let b : label z ≡ label x = ap label (sym e ∙ sym is) in omega (arith, a, b))))
+    (λ z m. has_later x z xs (back z (has_more y z ys m)) (λ e. absurd (let a = k.0 z m in let b : label z ≡ label y = ap label (sym e ∙ is) in omega (arith, a, b)))) in
     ap (λ n. n ∷ xs) is ∙ ap (λ zs. y ∷ zs) rest
 
 -- labels that are spread by a rising rule rise
@@ -379,13 +379,13 @@ sorted_rising label entries (x ∷ xs) h d among up = (
     strictly [] k a b apart here there le = absurd (cc)
     strictly (e ∷ es) k a b apart here there le = ⊎_elim
         (λ same. ⊎_elim
-            (λ same'. absurd (apart (same_number a e same ∙ sym (same_number b e same'))))
-            (λ later. let i : label a ≡ label e = ap label (same_number a e same) in let l = k.0 b later in omega (arith, i, l))
-            (or_cases (nat_eq b e) (has es b) there))
+        (λ same'. absurd (apart (same_number a e same ∙ sym (same_number b e same'))))
+        (λ later. let i : label a ≡ label e = ap label (same_number a e same) in let l = k.0 b later in omega (arith, i, l))
+        (or_cases (nat_eq b e) (has es b) there))
         (λ rest. ⊎_elim
-            (λ same'. absurd (let i : label b ≡ label e = ap label (same_number b e same') in let l = k.0 a rest in omega (arith, i, l, le)))
-            (λ later. strictly es k.1 a b apart rest later le)
-            (or_cases (nat_eq b e) (has es b) there))
+        (λ same'. absurd (let i : label b ≡ label e = ap label (same_number b e same') in let l = k.0 a rest in omega (arith, i, l, le)))
+        (λ later. strictly es k.1 a b apart rest later le)
+        (or_cases (nat_eq b e) (has es b) there))
         (or_cases (nat_eq a e) (has es a) here)
 
 -- entries that are sorted by their labels stand in the order of the entries

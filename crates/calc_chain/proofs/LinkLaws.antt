@@ -57,9 +57,9 @@ before_on after before p [] x h there = absurd (cc)
 before_on after before p (z ∷ zs) x h there = ⊎_elim
     (λ same. inl (ap (λ n. before (Some n)) (same_number x z same) ∙ h.1))
     (λ later. inr (⊎_elim
-        (λ is. (z, is, has_head z zs))
-        (λ w. (w.0, w.1, has_more z w.0 zs w.2))
-        (before_on after before (Some z) zs x h.2 later)))
+    (λ is. (z, is, has_head z zs))
+    (λ w. (w.0, w.1, has_more z w.0 zs w.2))
+    (before_on after before (Some z) zs x h.2 later)))
     (or_cases (nat_eq x z) (has zs x) there)
 
 -- the entry behind one of the path, or the end
@@ -102,20 +102,20 @@ pub path_without : (after before after' before' : Option ℕ → Option ℕ) (p 
 path_without after before after' before' p [] x h d there out j = absurd (cc)
 path_without after before after' before' p (z ∷ zs) x h d there out j = ⊎_elim
     (λ same. let is : x ≡ z = same_number x z same in
-        subst (IsPath after' before' p) (sym (ap (λ n. without (z ∷ zs) n) is ∙ without_head z zs (distinct_head z zs d)))
-        (past zs h.2 (ap (λ n. before (Some n)) is ∙ h.1) (ap (λ n. after (Some n)) is) (λ y k. out y (has_more z y zs k)) (distinct_tail z zs d)))
+    subst (IsPath after' before' p) (sym (ap (λ n. without (z ∷ zs) n) is ∙ without_head z zs (distinct_head z zs d)))
+    (past zs h.2 (ap (λ n. before (Some n)) is ∙ h.1) (ap (λ n. after (Some n)) is) (λ y k. out y (has_more z y zs k)) (distinct_tail z zs d)))
     (λ later. let apart : z ≢ x = λ e. not_that zs x z later (distinct_head z zs d) (sym e) in
-        subst (IsPath after' before' p) (sym (without_later z x zs apart)) (
-          j.after_stays p (λ e. ⊎_elim
-              (λ is. out z (has_head z zs) (e ∙ is))
-              (λ w. out w.0 (has_more z w.0 zs w.2) (e ∙ w.1))
-              (before_on after before (Some z) zs x h.2 later)) ∙ h.0,
-          j.before_stays (Some z) (λ e. ⊎_elim
-              (λ is. none_some (sym (e ∙ is)))
-              (λ w. not_that zs w.0 z w.2 (distinct_head z zs d) (sym (some_is (e ∙ w.1))))
-              (after_on after before (Some z) zs x h.2 later)) ∙ h.1,
-          path_without after before after' before' (Some z) zs x h.2 (distinct_tail z zs d) later (λ y k e. not_that zs y z k (distinct_head z zs d) (sym (some_is e))) j,
-        ))
+    subst (IsPath after' before' p) (sym (without_later z x zs apart)) (
+      j.after_stays p (λ e. ⊎_elim
+          (λ is. out z (has_head z zs) (e ∙ is))
+          (λ w. out w.0 (has_more z w.0 zs w.2) (e ∙ w.1))
+          (before_on after before (Some z) zs x h.2 later)) ∙ h.0,
+      j.before_stays (Some z) (λ e. ⊎_elim
+          (λ is. none_some (sym (e ∙ is)))
+          (λ w. not_that zs w.0 z w.2 (distinct_head z zs d) (sym (some_is (e ∙ w.1))))
+          (after_on after before (Some z) zs x h.2 later)) ∙ h.1,
+      path_without after before after' before' (Some z) zs x h.2 (distinct_tail z zs d) later (λ y k e. not_that zs y z k (distinct_head z zs d) (sym (some_is e))) j,
+    ))
     (or_cases (nat_eq x z) (has zs x) there)
   where
     past : (ys : List ℕ) → IsPath after before (Some z) ys → before (Some x) ≡ p → after (Some x) ≡ after (Some z) → ((y : ℕ) → has ys y ≡ true → p ≢ Some y) → IsDistinct nat_eq ys → IsPath after' before' p ys
@@ -127,11 +127,11 @@ path_without after before after' before' p (z ∷ zs) x h d there out j = ⊎_el
       ap after' (sym b) ∙ j.there ∙ a ∙ k.0,
       ap before' (sym (a ∙ k.0)) ∙ j.back ∙ b,
       frame after before after' before' (Some w) ws
-      (j.after_stays (Some w) (λ e. off w (has_head w ws) (sym (e ∙ b))))
-      (λ y there. j.after_stays (Some y) (λ e. off y (has_more w y ws there) (sym (e ∙ b))))
-      (λ y there. j.before_stays (Some y) (λ e. not_that ws y w there (distinct_head w ws once) (some_is (e ∙ (a ∙ k.0)))))
-      (j.before_stays None (λ e. none_some (e ∙ (a ∙ k.0))))
-      k.2,
+          (j.after_stays (Some w) (λ e. off w (has_head w ws) (sym (e ∙ b))))
+          (λ y there. j.after_stays (Some y) (λ e. off y (has_more w y ws there) (sym (e ∙ b))))
+          (λ y there. j.before_stays (Some y) (λ e. not_that ws y w there (distinct_head w ws once) (some_is (e ∙ (a ∙ k.0)))))
+          (j.before_stays None (λ e. none_some (e ∙ (a ∙ k.0))))
+          k.2,
     )
 
 -- ---- put in
@@ -160,16 +160,20 @@ path_front : (after before after' before' : Option ℕ → Option ℕ) (p : Opti
     → IsPut after before after' before' p x
     → IsPath after' before' p (x ∷ xs)
 path_front after before after' before' p [] x h d new out j = (j.here, j.back, (j.on ∙ h.0, ap before' (sym h.0) ∙ j.on_back))
-path_front after before after' before' p (z ∷ zs) x h d new out j = (j.here, j.back, (
-  j.on ∙ h.0,
-  ap before' (sym h.0) ∙ j.on_back,
-  frame after before after' before' (Some z) zs
-  (j.after_stays (Some z) (λ e. out z (has_head z zs) (sym e)) (other_some (not_that (z ∷ zs) z x (has_head z zs) new)))
-  (λ y there. j.after_stays (Some y) (λ e. out y (has_more z y zs there) (sym e)) (other_some (not_that (z ∷ zs) y x (has_more z y zs there) new)))
-  (λ y there. j.before_stays (Some y) (λ e. not_that zs y z there (distinct_head z zs d) (some_is (e ∙ h.0))) (other_some (not_that (z ∷ zs) y x (has_more z y zs there) new)))
-  (j.before_stays None (λ e. none_some (e ∙ h.0)) none_some)
-  h.2,
-))
+path_front after before after' before' p (z ∷ zs) x h d new out j = (
+  j.here,
+  j.back,
+  (
+    j.on ∙ h.0,
+    ap before' (sym h.0) ∙ j.on_back,
+    frame after before after' before' (Some z) zs
+        (j.after_stays (Some z) (λ e. out z (has_head z zs) (sym e)) (other_some (not_that (z ∷ zs) z x (has_head z zs) new)))
+        (λ y there. j.after_stays (Some y) (λ e. out y (has_more z y zs there) (sym e)) (other_some (not_that (z ∷ zs) y x (has_more z y zs there) new)))
+        (λ y there. j.before_stays (Some y) (λ e. not_that zs y z there (distinct_head z zs d) (some_is (e ∙ h.0))) (other_some (not_that (z ∷ zs) y x (has_more z y zs there) new)))
+        (j.before_stays None (λ e. none_some (e ∙ h.0)) none_some)
+        h.2,
+  ),
+)
 
 -- behind one of the path's entries
 pub path_put : (after before after' before' : Option ℕ → Option ℕ) (p : Option ℕ) (xs : List ℕ) (y x : ℕ)
@@ -215,8 +219,7 @@ path_push after before after' before' p [] x h d new out apart j =
 path_push after before after' before' p (z ∷ zs) x h d new out apart j =
     let fresh : has zs x ≡ false = (or_parts (nat_eq x z) (has zs x) new).1 in
     let away : z ≢ x = not_that (z ∷ zs) z x (has_head z zs) new in
-    let l = last_is z zs h.2 in
-    (
+    let l = last_is z zs h.2 in (
       j.after_stays p (λ e. out l.0 l.2 (e ∙ l.1)) apart ∙ h.0,
       j.before_stays (Some z) (λ e. none_some (sym (e ∙ ends (Some z) zs h.2))) (other_some away) ∙ h.1,
       path_push after before after' before' (Some z) zs x h.2 (distinct_tail z zs d) fresh (λ w k e. not_that zs w z k (distinct_head z zs d) (sym (some_is e))) (other_some away) j,

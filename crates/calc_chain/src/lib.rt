@@ -6,9 +6,9 @@ mod chains;
 mod labels;
 mod links;
 mod marks;
-mod ways;
 #[cfg(test)]
 mod tests;
+mod ways;
 
 pub use cell_refs::Memory;
 pub use chains::Chain;
