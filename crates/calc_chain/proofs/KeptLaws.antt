@@ -189,7 +189,7 @@ kept_next {entries} {labels} {due} {known} {marks} {room} due' marks' room' h m 
   chain = chain-same entries (behind_first (marked due marks)) entries (marked due' marks') refl e (chain-next entries (marked due marks) h.chain);
 }
 
-has_moved : (entries : List ℕ) (x y q : ℕ) → x ≢ y → has entries x ≡ true → has entries y ≡ true → has (moved_behind entries x y) q ≡ has entries q
+pub has_moved : (entries : List ℕ) (x y q : ℕ) → x ≢ y → has entries x ≡ true → has entries y ≡ true → has (moved_behind entries x y) q ≡ has entries q
 has_moved entries x y q apart here there =
     let rest = without entries x in
     let inside : place_of rest y + 1 ≤ length rest = let p = place_within rest y (still_has entries x y apart there) in omega (arith, p) in

@@ -6,3 +6,4 @@ mod LinkLaws
 mod ListLaws
 mod MarkLaws
 pub mod PublicLaws
+mod TestLaws

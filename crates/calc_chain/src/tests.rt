@@ -1,5 +1,8 @@
 ghost use Rattle.std.specs.Prelude.{◌≡◌, ◌<◌};
 
+mod both;
+mod vectors;
+
 use super::Chain;
 use cell_refs::Steps;
 use std::marker::Brand;
