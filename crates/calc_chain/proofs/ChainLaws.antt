@@ -1,20 +1,18 @@
 -- What each call leaves is a chain again.
-use Rattle.std.proofs.Common.{◌≡◌, ◌≢◌, ℕ, zero, suc, ◌+◌, ◌<◌, ◌≤◌, Bool, true, false, not, cond, ◌||◌, ◌&&◌, ◌==◌, Option, None, Some, List, [], ◌∷◌, ◌++◌, ◌⊎◌, length, reverse, take, get_or, set, length-set, get_or-set_same, get_or-set_other, ⊎_elim, inl, inr, refl, ap, sym, subst, ◌∙◌, arith}
-use Rattle.std.proofs.lemmas.List.{length-reverse, reverse-append, reverse-reverse}
-use Rattle.std.proofs.lemmas.List.Folds.{list_any-append, list_any_at, list_any_more}
+use Rattle.std.proofs.Common.{◌≡◌, ◌≢◌, ℕ, zero, suc, ◌+◌, ◌<◌, ◌≤◌, Bool, true, false, not, cond, ◌||◌, ◌&&◌, ◌==◌, List, [], ◌∷◌, ◌++◌, ◌⊎◌, length, reverse, get_or, ⊎_elim, inl, inr, refl, ap, sym, subst, ◌∙◌, arith}
+use Rattle.std.proofs.lemmas.List.Folds.{list_any-append, list_any_at}
 use Rattle.std.specs.Cmp.{nat_eq_equiv}
 use Rattle.std.specs.List.{IsDistinct, filter}
-use Rattle.std.specs.Option.{MatchOption, option_to_list}
 use Rattle.std.specs.Prelude.{nat_eq, insert}
 use Rattle.std.proofs.lemmas.Bool.{or_cases, or_parts}
 use Rattle.std.proofs.lemmas.Map.Keys.{IsDistinct-push}
-use Rattle.calc_chain.specs.Chain.{IsChain, behind_first, entries_among, first_of, has, moved_behind, place_of, without}
+use Rattle.calc_chain.specs.Chain.{IsChain, behind_first, entries_among, has, moved_behind, place_of, without}
 use Rattle.calc_chain.proofs.ListLaws.{distinct_filter, distinct_head, distinct_more, distinct_none, distinct_tail, filter-alike, filter-append, filter-both, filter-reverse, filter-short, flipped, has-filter, itself, same_number}
 
 pub chain-new : IsChain (record { entries = []; due = [] })
 chain-new = record { once = distinct_none; due = refl }
 
-and_first : (a b : Bool) → (a && b) ≡ true → a ≡ true
+pub and_first : (a b : Bool) → (a && b) ≡ true → a ≡ true
 and_first true b h = refl
 and_first false b h = h
 
@@ -78,20 +76,7 @@ pub chain-next : (entries due : List ℕ) → IsChain (record { entries = entrie
 chain-next entries [] chain = chain
 chain-next entries (x ∷ rest) chain = record { once = chain.once; due = next_due x rest entries chain.once chain.due }
 
--- what is popped is the first of the list the other way round
-pub popped : (old new : List ℕ) (result : Option ℕ) → old ≡ new ++ option_to_list result → (result ≡ None → old ≡ []) → (result ≡ first_of (reverse old)) × (reverse new ≡ behind_first (reverse old))
-popped old new None is none =
-    let empty = none refl in
-    let nil : new ≡ [] = sym (append_none new) ∙ sym is ∙ empty in
-    (ap first_of (sym (ap reverse empty)), ap reverse nil ∙ ap behind_first (sym (ap reverse empty)))
-popped old new (Some x) is none =
-    let turned : reverse old ≡ x ∷ reverse new = ap reverse is ∙ reverse-append new (x ∷ []) in
-    (ap first_of (sym turned), ap behind_first (sym turned))
-
 -- ---- taken out
-
-not_flip : (x y : ℕ) → (y == x) ≡ nat_eq y x
-not_flip x y = refl
 
 pub chain-without : (entries due : List ℕ) (x : ℕ) → IsChain (record { entries = entries; due = due }) → IsChain (record { entries = without entries x; due = without due x })
 chain-without entries due x chain =
@@ -223,13 +208,6 @@ moved-has entries x y q apart here there h =
     (λ other. and_first (has entries q) (not (q == x)) (sym (has-filter (λ z. not (z == x)) entries q) ∙ other))
     (or_cases (nat_eq q x) (has rest q) (sym (insert_has rest (place_of rest y + 1) x q within) ∙ h))
 
-pub due-few : (entries items : List ℕ) → IsChain (record { entries = entries; due = reverse items }) → length items ≤ length entries
-due-few entries items chain =
-    let short = filter-short (has (reverse items)) entries in
-    let same = ap length chain.due in
-    let turned = length-reverse items in
-    omega (arith, short, same, turned)
-
 -- a number of a list with one more is one of the list, or that
 pub has-push : (xs : List ℕ) (x q : ℕ) → has (xs ++ x ∷ []) q ≡ true → (has xs q ≡ true) ⊎ (q ≡ x)
 has-push xs x q h = ⊎_elim (λ before. inl before) (λ last. inr (same_number q x (sym (alone (nat_eq q x)) ∙ last))) (or_cases (has xs q) (has (x ∷ []) q) (sym (list_any-append (nat_eq q) xs (x ∷ [])) ∙ h))
@@ -245,74 +223,9 @@ has-at xs i below = list_any_at (nat_eq (get_or xs i 0)) xs i 0 below (itself (g
 pub has-without : (xs : List ℕ) (x q : ℕ) → has (without xs x) q ≡ true → has xs q ≡ true
 has-without xs x q h = and_first (has xs q) (not (q == x)) (sym (has-filter (λ z. not (z == x)) xs q) ∙ h)
 
--- one more number's flag
-pub flag-next : (flags : List Bool) (numbers : List ℕ) (i : ℕ) → i < length numbers → get_or numbers i 0 < length flags
-    → ((k : ℕ) → k < length flags → get_or flags k false ≡ has (take i numbers) k)
-    → (k : ℕ) → k < length (set flags (get_or numbers i 0) true) → get_or (set flags (get_or numbers i 0) true) k false ≡ has (take (i + 1) numbers) k
-flag-next flags numbers i below inside before k within =
-    let n = get_or numbers i 0 in
-    let more = list_any_more (nat_eq k) numbers i 0 below in
-    let len : length (set flags n true) ≡ length flags = length-set flags n true in
-    elim (nat_eq k n) as (λ b. nat_eq k n ≡ b → get_or (set flags n true) k false ≡ has (take (i + 1) numbers) k) [
-      | true ↦ λ e.
-          let is : k ≡ n = same_number k n e in
-          ap (λ j. get_or (set flags n true) j false) is ∙ get_or-set_same flags n true false inside ∙ sym (more ∙ ap (λ b. has (take i numbers) k || b) e ∙ or_true (has (take i numbers) k))
-      | false ↦ λ e.
-          let apart : k ≢ n = λ is. false_is (nat_eq k n) e (ap (nat_eq k) (sym is) ∙ itself k) in
-          get_or-set_other flags n k true false apart ∙ before k (omega (arith, len)) ∙ sym (more ∙ ap (λ b. has (take i numbers) k || b) e ∙ or_none (has (take i numbers) k))
-    ] refl
-  where
-    or_true : (b : Bool) → (b || true) ≡ true
-    or_true true = refl
-    or_true false = refl
-
-    or_none : (b : Bool) → (b || false) ≡ b
-    or_none true = refl
-    or_none false = refl
-
-    false_is : (b : Bool) → b ≡ false → b ≡ true → ⊥
-    false_is b h k = let e : true ≡ false = sym k ∙ h in cc
-
 pub chain-same : (entries due entries' due' : List ℕ) → entries' ≡ entries → due' ≡ due → IsChain (record { entries = entries; due = due }) → IsChain (record { entries = entries'; due = due' })
 chain-same entries due entries' due' e d chain =
     subst (λ xs. IsChain (record { entries = xs; due = due' })) (sym e) (subst (λ ys. IsChain (record { entries = entries; due = ys })) (sym d) chain)
-
-pub none_left : (result : Option ℕ) (len : ℕ) (P : Type 0) (Q : ℕ → Type 0) (old : List ℕ) → MatchOption result ((len ≡ 0) × P) Q → len ≡ length old → result ≡ None → old ≡ []
-none_left None len P Q [] cases count is = refl
-none_left None len P Q (x ∷ xs) cases count is = absurd (let z = cases.0 in omega (arith, z, count))
-none_left (Some x) len P Q old cases count is = absurd (cc)
-
--- the flagged entries are those among the numbers
-pub flagged-among : (entries numbers : List ℕ) (flags : List Bool) → ((x : ℕ) → has entries x ≡ true → x < length flags)
-    → ((x : ℕ) → x < length flags → get_or flags x false ≡ has numbers x) → filter (λ x. get_or flags x false) entries ≡ entries_among entries numbers
-flagged-among entries numbers flags fits set = filter-alike (λ x. get_or flags x false) (has numbers) entries (λ x there. set x (fits x there))
-
--- what is pushed is what is flagged, the last one first
-pub rewound : (order numbers : List ℕ) (flags : List Bool) (order' : List ℕ) (flags' : List Bool) (cleared pushed : List ℕ)
-    → order' ≡ order → flags' ≡ flags → cleared ≡ [] → pushed ≡ cleared ++ reverse (filter (λ x. get_or flags' x false) order')
-    → ((x : ℕ) → has order x ≡ true → x < length flags) → ((x : ℕ) → x < length flags → get_or flags x false ≡ has numbers x)
-    → reverse pushed ≡ entries_among order numbers
-rewound order numbers flags order' flags' cleared pushed e f none is fits set =
-    ap reverse (is ∙ ap (λ xs. xs ++ reverse (filter (λ x. get_or flags' x false) order')) none)
-    ∙ reverse-reverse (filter (λ x. get_or flags' x false) order')
-    ∙ ap (λ xs. filter (λ x. get_or flags' x false) xs) e
-    ∙ ap (λ fs. filter (λ x. get_or fs x false) order) f
-    ∙ flagged-among order numbers flags fits set
-
--- a place behind a number of a list that lacks another
-pub moved-place : (order rest read : List ℕ) (x y p : ℕ) → rest ≡ without order x → read ≡ rest → p ≡ place_of read y → x ≢ y → has order y ≡ true → p + 1 ≤ length rest
-moved-place order rest read x y p is same at apart there =
-    let inside : place_of (without order x) y < length (without order x) = place_within (without order x) y (still_has order x y apart there) in
-    let e : p ≡ place_of (without order x) y = at ∙ ap (λ xs. place_of xs y) (same ∙ is) in
-    let l = ap length is in
-    omega (arith, inside, e, l)
-
-pub moved-items : (order rest read new : List ℕ) (x y p : ℕ) (b : Bool) → rest ≡ without order x → read ≡ rest → p ≡ place_of read y → b ≡ true
-    → new ≡ cond b (insert rest (p + 1) x) rest → new ≡ moved_behind order x y
-moved-items order rest read new x y p b is same at ok items =
-    items ∙ ap (λ c. cond c (insert rest (p + 1) x) rest) ok
-    ∙ ap (λ n. insert rest (n + 1) x) (at ∙ ap (λ xs. place_of xs y) (same ∙ is))
-    ∙ ap (λ xs. insert xs (place_of (without order x) y + 1) x) is
 
 pub moved-length : (order : List ℕ) (x y : ℕ) → x ≢ y → has order x ≡ true → has order y ≡ true → length (moved_behind order x y) ≤ length order
 moved-length order x y apart here there =

@@ -1,20 +1,20 @@
 -- What a chain keeps: what each call leaves of it.
-use Rattle.std.proofs.Common.{◌≡◌, ◌≢◌, ℕ, zero, suc, ◌+◌, ◌-◌, ◌<◌, ◌≤◌, Bool, true, false, not, cond, ◌||◌, ◌&&◌, ◌==◌, List, [], ◌∷◌, ◌++◌, ◌⊎◌, length, reverse, get_or, set, length-set, get_or-set_same, get_or-set_other, length-append, ⊎_elim, inl, inr, refl, ap, sym, subst, ◌∙◌, arith}
+use Rattle.std.proofs.Common.{◌≡◌, ◌≢◌, ℕ, ◌+◌, ◌<◌, ◌≤◌, Bool, true, false, not, cond, ◌||◌, ◌&&◌, ◌==◌, List, [], ◌∷◌, ◌++◌, length, reverse, get_or, set, length-set, get_or-set_same, get_or-set_other, refl, ap, sym, subst, ◌∙◌, arith}
 use Rattle.std.specs.List.{IsDistinct, filter}
 use Rattle.std.specs.List.Sorted.{IsNonDecreasingBy, IsPermutation}
-use Rattle.std.specs.Prelude.{insert, nat_eq, nat_le, nat_lt}
-use Rattle.std.proofs.lemmas.Bool.{or_cases, or_parts}
+use Rattle.std.specs.Prelude.{nat_eq, nat_le, nat_lt}
 use Rattle.std.proofs.lemmas.Bool.Decides.{nat_tests}
-use Rattle.std.proofs.lemmas.List.{get_or_past, length_push, reverse-append, reverse-reverse}
+use Rattle.std.proofs.lemmas.List.{get_or_past, length_push, reverse-reverse}
 use Rattle.std.proofs.lemmas.List.Folds.{list_any-append}
 use Rattle.std.proofs.lemmas.List.Sorted.{IsPermutation-reverse, list_any-IsPermutation}
 use Rattle.std.proofs.lemmas.Map.Keys.{IsDistinct-IsPermutation}
-use Rattle.calc_chain.specs.Chain.{IsChain, Order, behind_first, entries_among, has, is_behind, moved_behind, place_of, without}
+use Rattle.calc_chain.specs.Chain.{behind_first, entries_among, has, is_behind, moved_behind, place_of, without}
 use Rattle.calc_chain.specs.Links.{IsKept, IsLabelled, IsMarked, IsRoom, label_in, marked}
-use Rattle.calc_chain.proofs.ChainLaws.{chain-among, chain-append, chain-moved, chain-new, chain-next, chain-same, chain-without, due-entry, has-without, insert_has, moved-length, place_within, still_has, turned-without}
-use Rattle.calc_chain.proofs.ListLaws.{differs, distinct_filter, distinct_none, filter-alike, filter-reverse, filter-short, flipped, has-filter, itself, same_number, same_test}
-use Rattle.calc_chain.proofs.LinkLaws.{no_bool, no_more, without_none}
-use Rattle.calc_chain.proofs.LabelLaws.{labelled_moved, labelled_push, rising_behind, rising_filter, rising_same, sorted_is}
+use Rattle.calc_chain.proofs.ListLaws.{distinct_filter, filter-alike, filter-reverse, filter-short, flipped, has-filter, itself, same_number}
+use Rattle.calc_chain.proofs.ChainLaws.{chain-among, chain-append, chain-moved, chain-next, chain-same, chain-without, due-entry, has-without, insert_has, moved-length, place_within, still_has, turned-without}
+use Rattle.calc_chain.proofs.PathLaws.{no_bool, no_more, without_none}
+use Rattle.calc_chain.proofs.RisingLaws.{rising_behind, rising_filter, rising_same, sorted_is}
+use Rattle.calc_chain.proofs.LabelLaws.{labelled_moved, labelled_push}
 
 -- a mark that is set stands in the list
 within : (marks : List Bool) (x : ℕ) → get_or marks x false ≡ true → x < length marks
@@ -25,20 +25,6 @@ within marks x h = elim (nat_le (length marks) x) as (λ b. nat_le (length marks
 
 pub known_within : {entries labels due : List ℕ} {known marks : List Bool} {room : ℕ} → IsKept entries labels due known marks room → (x : ℕ) → has entries x ≡ true → x < length known
 known_within {known = known} h x there = within known x (h.knows x ∙ there)
-
-pub kept_new : (labels due : List ℕ) (known marks : List Bool) (room : ℕ) → labels ≡ [] → due ≡ [] → known ≡ [] → marks ≡ [] → IsKept [] labels due known marks room
-kept_new labels due known marks room a b c d = record {
-  labelled = record { rising = tt; inside = λ x h. absurd (cc) };
-  knows = λ x. ap (λ ks. get_or ks x false) c;
-  fits = λ x h. absurd (cc);
-  listed = record {
-    once = subst (IsDistinct nat_eq) (sym b) distinct_none;
-    fits = λ x h. absurd (let e : false ≡ true = sym (ap (λ ys. has ys x) b) ∙ h in cc);
-    there = λ x h. absurd (let e : false ≡ true = sym (ap (λ ms. get_or ms x false) d) ∙ h in cc);
-  };
-  holds = omega arith;
-  chain = chain-same [] [] [] (marked due marks) refl (ap (λ ys. marked ys marks) b) chain-new;
-}
 
 -- vectors that have more room
 pub marked_same : (due due' : List ℕ) (marks marks' : List Bool) → due' ≡ due → ((i : ℕ) → get_or marks' i false ≡ get_or marks i false) → marked due' marks' ≡ marked due marks

@@ -5,5 +5,7 @@ mod LabelLaws
 mod LinkLaws
 mod ListLaws
 mod MarkLaws
-pub mod PublicLaws
+mod PathLaws
+mod RisingLaws
 mod TestLaws
+pub mod PublicLaws

@@ -108,7 +108,7 @@ pub distinct_more : (x : ℕ) (xs : List ℕ) → has xs x ≡ false → IsDisti
 unfolding IsDistinct
 distinct_more x xs h d = (fails_all x xs h, d)
 
-and_false : (a b : Bool) → a ≡ false → (a && b) ≡ false
+pub and_false : (a b : Bool) → a ≡ false → (a && b) ≡ false
 and_false true b h = cc
 and_false false b h = refl
 

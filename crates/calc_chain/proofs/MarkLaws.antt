@@ -1,21 +1,20 @@
 -- Numbers that are marked, and what a chain keeps.
-use Rattle.std.proofs.Common.{◌≡◌, ◌≢◌, ℕ, zero, suc, ◌+◌, ◌-◌, ◌<◌, ◌≤◌, Bool, true, false, not, cond, ◌||◌, ◌&&◌, ◌==◌, Option, None, Some, List, [], ◌∷◌, ◌++◌, ◌⊎◌, length, reverse, take, get_or, set, length-set, get_or-set_same, get_or-set_other, ⊎_elim, inl, inr, refl, ap, sym, subst, ◌∙◌, arith}
+use Rattle.std.proofs.Common.{◌≡◌, ◌≢◌, ℕ, ◌+◌, ◌<◌, Bool, true, false, cond, ◌||◌, Some, List, [], ◌∷◌, ◌++◌, length, reverse, take, get_or, set, length-set, get_or-set_same, get_or-set_other, ⊎_elim, refl, ap, sym, subst, ◌∙◌, arith}
 use Rattle.std.specs.List.{IsDistinct, filter}
 use Rattle.std.specs.Prelude.{nat_eq}
-use Rattle.std.proofs.lemmas.Bool.{or_cases, or_parts}
 use Rattle.std.proofs.lemmas.List.{append-nil, reverse-append}
 use Rattle.std.proofs.lemmas.List.Folds.{list_any-append, list_any_more}
 use Rattle.calc_chain.specs.Chain.{behind_first, first_of, has}
 use Rattle.calc_chain.specs.Links.{IsMarked, marked}
+use Rattle.calc_chain.proofs.ListLaws.{differs, distinct_head, distinct_more, distinct_none, distinct_tail, filter-alike, filter-append, itself, same_number}
 use Rattle.calc_chain.proofs.ChainLaws.{has-push}
-use Rattle.calc_chain.proofs.ListLaws.{differs, distinct_filter, distinct_head, distinct_more, distinct_none, distinct_tail, filter-alike, filter-append, filter-reverse, flipped, has-filter, itself, same_number, same_test}
-use Rattle.calc_chain.proofs.LinkLaws.{no_bool, not_that}
+use Rattle.calc_chain.proofs.PathLaws.{below, no_bool, not_that}
 
-or_true : (b : Bool) → (b || true) ≡ true
+pub or_true : (b : Bool) → (b || true) ≡ true
 or_true true = refl
 or_true false = refl
 
-or_none : (b : Bool) → (b || false) ≡ b
+pub or_none : (b : Bool) → (b || false) ≡ b
 or_none true = refl
 or_none false = refl
 

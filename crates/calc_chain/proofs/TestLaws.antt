@@ -1,14 +1,14 @@
 -- What the tests' lists of calls rest on.
-use Rattle.std.proofs.Common.{◌≡◌, ◌≢◌, ℕ, ◌+◌, ◌<◌, Bool, true, false, cond, List, [], ◌∷◌, ◌++◌, ◌⊎◌, Option, None, Some, ⊎_elim, refl, ap, sym, subst, ◌∙◌, arith}
+use Rattle.std.proofs.Common.{◌≡◌, ◌≢◌, ℕ, ◌+◌, ◌<◌, Bool, true, false, cond, List, [], ◌∷◌, ◌++◌, Some, ⊎_elim, refl, ap, sym, subst, ◌∙◌, arith}
 use Rattle.std.specs.Cmp.{nat_eq_equiv}
 use Rattle.std.specs.List.{IsDistinct}
 use Rattle.std.specs.Prelude.{nat_eq}
 use Rattle.std.proofs.lemmas.Map.Keys.{IsDistinct-push}
-use Rattle.calc_chain.specs.Chain.{IsChain, Order, behind_first, entries_among, first_of, has, is_behind, moved_behind}
-use Rattle.calc_chain.proofs.ChainLaws.{due-entry, has-push}
-use Rattle.calc_chain.proofs.KeptLaws.{has_moved}
-use Rattle.calc_chain.proofs.LinkLaws.{has_head, no_bool, none_some, some_is}
+use Rattle.calc_chain.specs.Chain.{IsChain, Order, behind_first, first_of, has, is_behind, moved_behind}
 use Rattle.calc_chain.proofs.ListLaws.{distinct_filter, distinct_head, distinct_none}
+use Rattle.calc_chain.proofs.ChainLaws.{due-entry, has-push}
+use Rattle.calc_chain.proofs.PathLaws.{has_head, none_some, some_is}
+use Rattle.calc_chain.proofs.KeptLaws.{has_moved}
 
 -- some entries, with numbers below a bound
 pub record IsPart (some entries : List ℕ) (bound : ℕ) : Type 0 where

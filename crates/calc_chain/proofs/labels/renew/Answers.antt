@@ -1,6 +1,7 @@
 use Rattle.std.proofs.Common.{sym, ◌∙◌, arith}
-use Rattle.calc_chain.proofs.LabelLaws.{even_labelled, even_more, even_room, even_small, has_get, next_at, past_get, rising_distinct}
 use Rattle.calc_chain.specs.Links.{label_in}
+use Rattle.calc_chain.proofs.RisingLaws.{rising_distinct}
+use Rattle.calc_chain.proofs.LabelLaws.{even_labelled, even_more, even_room, even_small, has_get, next_at}
 use Rattle.calc_chain.proofs.labels.renew.Goals as goal
 
 pub bounds-labels-x : goal.bounds-labels-x

@@ -1,4 +1,4 @@
-use Rattle.std.proofs.Common.{ℕ, List, ◌≤◌, ◌<◌, ◌∙◌, ap, length, reverse, rules, subst, sym}
+use Rattle.std.proofs.Common.{ℕ, List, ◌∙◌, ap, reverse, rules, subst, sym}
 use Rattle.std.specs.List.Sorted.{IsNonDecreasingBy, IsPermutation}
 use Rattle.std.proofs.lemmas.List.{reverse-reverse}
 use Rattle.std.proofs.lemmas.List.Sorted.{IsNonDecreasingBy-from_sort_by_key}

@@ -1,4 +1,4 @@
-use Rattle.std.proofs.Common.{sym, ◌∙◌, ◌++◌, ◌∷◌, [], ap, take, arith}
+use Rattle.std.proofs.Common.{sym, ◌∙◌, ◌++◌, ◌∷◌, [], ap, take}
 use Rattle.std.proofs.lemmas.List.{take_more}
 use Rattle.calc_chain.proofs.LabelLaws.{has_get, next_at, within_get}
 use Rattle.calc_chain.proofs.links.list.Goals as goal

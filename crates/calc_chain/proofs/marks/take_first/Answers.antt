@@ -1,4 +1,4 @@
-use Rattle.std.proofs.Common.{◌≡◌, arith, sym, ◌∙◌, ap, length, true, false}
+use Rattle.std.proofs.Common.{◌≡◌, arith, sym, ◌∙◌, ap, true, false}
 use Rattle.std.specs.Prelude.{slice_index_or}
 use Rattle.std.proofs.lemmas.List.{get_or_read}
 use Rattle.calc_chain.specs.Chain.{behind_first, first_of}

@@ -1,4 +1,4 @@
-use Rattle.calc_chain.proofs.LinkLaws.{put_from_joins}
+use Rattle.calc_chain.proofs.PathLaws.{put_from_joins}
 use Rattle.calc_chain.proofs.ways.put.Goals as goal
 
 pub returns-clause-put : goal.returns-clause-put

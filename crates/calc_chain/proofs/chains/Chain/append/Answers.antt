@@ -1,4 +1,4 @@
-use Rattle.std.proofs.Common.{◌≡◌, ◌∙◌, ◌≤◌, ◌<◌, ◌+◌, ◌++◌, ◌∷◌, [], ap, refl, sym, subst, true, false, arith, length}
+use Rattle.std.proofs.Common.{◌≡◌, ◌∙◌, ◌++◌, ◌∷◌, [], ap, refl, sym, subst, false, arith}
 use Rattle.calc_chain.specs.Chain.{has}
 use Rattle.calc_chain.specs.Links.{marked}
 use Rattle.calc_chain.proofs.KeptLaws.{kept_as, kept_grown, kept_push, labelled_grown, marked_same}

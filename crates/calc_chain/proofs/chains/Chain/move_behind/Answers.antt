@@ -1,4 +1,4 @@
-use Rattle.std.proofs.Common.{◌≡◌, ◌∙◌, ap, sym, subst, true, false}
+use Rattle.std.proofs.Common.{◌≡◌, sym, subst, true, false}
 use Rattle.calc_chain.specs.Chain.{has}
 use Rattle.calc_chain.proofs.KeptLaws.{kept_as, kept_moved}
 use Rattle.calc_chain.proofs.chains.Chain.move_behind.Goals as goal

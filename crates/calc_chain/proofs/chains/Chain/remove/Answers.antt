@@ -1,4 +1,4 @@
-use Rattle.std.proofs.Common.{◌≡◌, ◌∙◌, ap, sym, subst, true, false}
+use Rattle.std.proofs.Common.{◌≡◌, ◌∙◌, ap, sym, true, false}
 use Rattle.std.specs.Prelude.{slice_index_or, slice_set}
 use Rattle.calc_chain.specs.Chain.{has, without}
 use Rattle.calc_chain.specs.Links.{marked}

@@ -1,6 +1,3 @@
-use Rattle.std.proofs.Common.{◌∙◌, ◌≡◌, ap, subst, sym, true}
-use Rattle.std.specs.Option.{IfSome}
-use Rattle.calc_chain.specs.Chain.{has}
 use Rattle.calc_chain.proofs.LinkLaws.{before_there}
 use Rattle.calc_chain.proofs.links.Links.before.Goals as goal
 

@@ -1,4 +1,3 @@
-use Rattle.std.proofs.Common.{arith, ◌∙◌, ap, length, sym}
 use Rattle.calc_chain.proofs.LinkLaws.{linked_few}
 use Rattle.calc_chain.proofs.links.Links.len.Goals as goal
 

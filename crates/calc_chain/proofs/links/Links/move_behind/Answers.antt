@@ -1,7 +1,7 @@
-use Rattle.std.proofs.Common.{◌∙◌, ◌≡◌, ◌+◌, ◌-◌, ◌<◌, ap, refl, subst, sym, true, length, arith}
-use Rattle.calc_chain.specs.Chain.{has, moved_behind, without}
+use Rattle.std.proofs.Common.{◌∙◌, ◌≡◌, ◌-◌, ap, subst, sym, true, arith}
+use Rattle.calc_chain.specs.Chain.{has, moved_behind}
 use Rattle.calc_chain.proofs.ChainLaws.{gone, still_has}
-use Rattle.calc_chain.proofs.LinkLaws.{before_fits, behind_fits, behind_off, linked_again, linked_few, linked_some, linked_walk, linked_moved, linked_without, put_is}
+use Rattle.calc_chain.proofs.LinkLaws.{before_fits, behind_fits, behind_off, linked_again, linked_moved, linked_some, linked_walk, linked_without}
 use Rattle.calc_chain.proofs.links.Links.move_behind.Goals as goal
 
 pub pass-requires-clause-before : goal.pass-requires-clause-before

@@ -1,8 +1,9 @@
-use Rattle.std.proofs.Common.{◌∙◌, ◌≡◌, ◌≢◌, ◌+◌, ◌-◌, ◌<◌, ◌++◌, ◌∷◌, [], Option, Some, None, ℕ, ap, refl, subst, sym, true, false, length, arith}
+use Rattle.std.proofs.Common.{◌∙◌, ◌≡◌, ◌<◌, ◌++◌, ◌∷◌, [], Option, ℕ, ap, refl, subst, sym, false, length, arith}
 use Rattle.std.specs.Option.{IfSome}
 use Rattle.calc_chain.specs.Chain.{has}
-use Rattle.calc_chain.specs.Links.{IsLinked, IsPut, link}
-use Rattle.calc_chain.proofs.LinkLaws.{end_behind, end_fits, end_off, linked_again, linked_few, linked_kept, linked_push, linked_walk, none_some}
+use Rattle.calc_chain.specs.Links.{link}
+use Rattle.calc_chain.proofs.PathLaws.{none_some}
+use Rattle.calc_chain.proofs.LinkLaws.{end_behind, end_fits, end_off, linked_again, linked_few, linked_kept, linked_push, linked_walk}
 use Rattle.calc_chain.proofs.links.Links.push.Goals as goal
 
 pub invariant_of-self : goal.invariant_of-self

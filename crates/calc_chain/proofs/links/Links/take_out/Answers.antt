@@ -1,6 +1,5 @@
-use Rattle.std.proofs.Common.{◌∙◌, ◌≡◌, ◌+◌, ◌-◌, ◌<◌, ap, subst, sym, true, length, arith}
+use Rattle.std.proofs.Common.{◌∙◌, ◌≡◌, ◌-◌, ap, subst, sym, true, arith}
 use Rattle.calc_chain.specs.Chain.{has, without}
-use Rattle.calc_chain.specs.Links.{IsLinked, link, walk}
 use Rattle.calc_chain.proofs.LinkLaws.{before_fits, behind_fits, linked_again, linked_some, linked_walk, linked_without}
 use Rattle.calc_chain.proofs.links.Links.take_out.Goals as goal
 

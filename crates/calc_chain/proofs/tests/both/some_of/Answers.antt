@@ -1,4 +1,4 @@
-use Rattle.std.proofs.Common.{◌≡◌, sym, ◌∙◌, true}
+use Rattle.std.proofs.Common.{sym, ◌∙◌}
 use Rattle.calc_chain.proofs.TestLaws.{part-more, part-none}
 use Rattle.calc_chain.proofs.tests.both.some_of.Goals as goal
 

@@ -1,4 +1,4 @@
-use Rattle.std.proofs.Common.{◌≡◌, sym, ◌∙◌, ap, true, false}
+use Rattle.std.proofs.Common.{sym, ◌∙◌, ap}
 use Rattle.calc_chain.specs.Chain.{has}
 use Rattle.calc_chain.proofs.TestLaws.{first-idle, first-there}
 use Rattle.calc_chain.proofs.tests.both.take.Goals as goal
