@@ -15,10 +15,11 @@ const WIDE: u64 = 1 << 31;
 /// How far a label stands from the one before it where an entry is put between two. It isn't half the room, so that entries which are put in one behind the other don't use it up in some thirty steps.
 const NEAR: u64 = 1 << 10;
 
-/// The last of some entries that stand too near one another, and how far apart there is room for them.
+/// The last of some entries that stand too near one another, the label that theirs stay below, and how far apart there is room for them.
 #[derive(Drop)]
 struct Crowd {
     last: u32,
+    top: u64,
     gap: u64,
 }
 
@@ -131,9 +132,12 @@ fn crowd_behind(links: &Links, labels: &[u64], x: u32) -> Option<Crowd>
     let from = label_of(labels, x);
     let mut last = x;
     for count in 1..=links.len() as u64 {
-        let gap = limit_of(links, labels, last).saturating_sub(from) / count;
+        // Not further than labels at the end would stand, so that many are left there.
+        let far = from.saturating_add(WIDE.saturating_mul(count));
+        let top = limit_of(links, labels, last).min(far);
+        let gap = top.saturating_sub(from) / count;
         if gap > NEAR + count {
-            return Some(Crowd { last, gap });
+            return Some(Crowd { last, top, gap });
         }
         match links.behind(last) {
             None => return None,
@@ -150,7 +154,7 @@ fn spread(links: &Links, labels: &mut [u64], x: u32, crowd: Crowd)
     ensures { IsLabelled links.now labels.new }
 {
     let mut at = crowd.last;
-    let mut label = limit_of(links, labels, at);
+    let mut label = crowd.top;
     for _ in 0..links.len() {
         if at == x {
             return;
